@@ -1,0 +1,4 @@
+pub mod Bit
+pub mod Turns
+pub mod Xor
+pub mod Join

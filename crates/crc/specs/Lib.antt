@@ -1,0 +1,3 @@
+pub mod Rule
+pub mod Register
+pub mod Crc

@@ -1,0 +1,10 @@
+-- The proved set holds, by computation of the definitions.
+-- Assumes nothing.
+use mathlib.Core.Path.{refl}
+use Rattle.crc.specs.Register.{leaving, moved, placed, afterBit, afterBits, afterByte, after}
+use Rattle.crc.specs.Crc.{crcOf}
+use Rattle.figures.specs.ProvedSet.{AllHold, provedSet}
+
+pub proved-set : AllHold provedSet
+unfolding leaving moved placed afterBit afterBits afterByte after crcOf
+proved-set = (refl, (refl, tt))

@@ -1,0 +1,9 @@
+// Runs the published figures over the proved code. What it writes is held to the file stdout beside src/.
+mod checksums;
+mod ranges;
+mod text;
+
+fn main() {
+    checksums::run();
+    ranges::run();
+}

@@ -1,0 +1,55 @@
+// Ranges at the edges of RAM and of flash.
+use crate::text::decimal;
+use crate::text::hex;
+use crate::text::text;
+use wire::range::Place;
+use wire::unit::FlashOffset;
+use wire::unit::RamAddress;
+
+fn verdict(place: Place) {
+    match place {
+        Place::Inside(at) => {
+            text(b": from byte ");
+            decimal(at as u64);
+        }
+        Place::Outside => text(b": outside"),
+    }
+    text(b"\n");
+}
+
+fn ram(address: u32, count: usize, length: usize) {
+    text(b"RAM of ");
+    decimal(length as u64);
+    text(b", ");
+    decimal(count as u64);
+    text(b" from ");
+    hex(address as u64, 8);
+    verdict(RamAddress(address).place(count, length));
+}
+
+fn flash(offset: u32, count: usize, length: usize) {
+    text(b"flash of ");
+    decimal(length as u64);
+    text(b", ");
+    decimal(count as u64);
+    text(b" from ");
+    hex(offset as u64, 8);
+    verdict(FlashOffset(offset).place(count, length));
+}
+
+pub fn run() {
+    ram(0x07FC_0000, 131_072, 131_072);
+    ram(0x07FC_0000, 131_073, 131_072);
+    ram(0x07FB_FFFF, 1, 131_072);
+    ram(0x07FD_FFFF, 1, 131_072);
+    ram(0x07FD_FFFF, 2, 131_072);
+    ram(0x07FE_0000, 1, 131_072);
+    ram(0xFFFF_FFFF, 1, 131_072);
+    ram(0x0000_0000, 1, 131_072);
+    flash(0, 4_096, 4_096);
+    flash(4_095, 1, 4_096);
+    flash(4_095, 2, 4_096);
+    flash(4_096, 1, 4_096);
+    flash(0xFFFF_FFFF, 1, 4_194_304);
+    flash(0xFFFF_FFFF, 0xFFFF_FFFF, 4_194_304);
+}

@@ -1,0 +1,22 @@
+-- Little-endian numbers (01: "numbers little-endian"), over the number of their bytes.
+-- Assumes nothing.
+use Prim.Native.Nat.{ℕ, zero, suc, _+_, _*_}
+use mathlib.Core.List.{List, [], _∷_}
+use mathlib.Core.Bool.{cond}
+use lib.ListN.{length, take, drop}
+use lib.Dec.{leb}
+use Rattle.wire.specs.declared.number.Reading.{Reading}
+use Rattle.wire.specs.declared.number.Reading.the-variants.{Number, Missing}
+
+-- the number that bytes make, the first byte lowest
+abbrev pub numberOf : List ℕ → ℕ
+numberOf [] = 0
+numberOf (b ∷ bs) = b + 256 * numberOf bs
+
+-- the number in the `width` bytes from a place on
+unfoldable pub numberAt : (width : ℕ) (bytes : List ℕ) (place : ℕ) → ℕ
+numberAt width bytes place = numberOf (take width (drop place bytes))
+
+-- the same, where all these bytes are there
+unfoldable pub readAt : (width : ℕ) (bytes : List ℕ) (place : ℕ) → Reading
+readAt width bytes place = cond (leb (place + width) (length bytes)) (Number (numberAt width bytes place)) Missing

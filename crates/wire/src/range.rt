@@ -1,0 +1,29 @@
+// Whether a range of bytes lies wholly in a memory.
+ghost use mathlib.Core.Path.{_≡_};
+ghost use Rattle.wire.specs.Range.{placeIn};
+
+// Where a range begins in its memory.
+pub enum Place {
+    // The range lies wholly in the memory; the index of its first byte there.
+    Inside(usize),
+    // At least one of its bytes does not lie in the memory.
+    Outside,
+}
+
+// Judges `count` bytes from the address `start` on, in a memory of `length` bytes whose first address is `base`. Only differences
+// are made, so nothing can wrap.
+pub fn place_in(start: usize, count: usize, base: usize, length: usize) -> Place
+    ensures { λ r. ⌜ r ≡ placeIn start count base length ⌝ }
+{
+    if start < base {
+        return Place::Outside;
+    }
+    let place = start - base;
+    if length < place {
+        return Place::Outside;
+    }
+    if length - place < count {
+        return Place::Outside;
+    }
+    Place::Inside(place)
+}
