@@ -38,23 +38,39 @@ fn counting() -> [u8; 4096] {
     bytes
 }
 
-pub fn run() {
+fn in_catalogues() {
     whole(b"123456789", b"123456789");
-    in_parts(b"123456789", 0, b"nothing, 123456789");
-    in_parts(b"123456789", 4, b"1234, 56789");
-    in_parts(b"123456789", 9, b"123456789, nothing");
     whole(b"", b"nothing");
-    whole(b"\x00", b"00");
-    whole(b"\xFF", b"FF");
     whole(b"A", b"A");
     whole(b"a", b"a");
     whole(b"abc", b"abc");
-    whole(
-        b"The quick brown fox jumps over the lazy dog",
-        b"The quick brown fox jumps over the lazy dog",
-    );
+    let fox = b"The quick brown fox jumps over the lazy dog";
+    whole(fox, fox);
+}
+
+fn single_bytes() {
+    whole(b"\x00", b"00");
+    whole(b"\x80", b"80");
+    whole(b"\xFF", b"FF");
+}
+
+fn cut_in_two() {
+    let digits = b"123456789";
+    in_parts(digits, 0, b"nothing, 123456789");
+    in_parts(digits, 4, b"1234, 56789");
+    in_parts(digits, 9, b"123456789, nothing");
+}
+
+fn kilobytes() {
     whole(&[0u8; 4096], b"4,096 times 00");
     whole(&[0xFFu8; 4096], b"4,096 times FF");
     whole(&counting(), b"00 to FF, 16 times");
     in_parts(&counting(), 1000, b"00 to FF, 16 times, cut at 1,000");
+}
+
+pub fn run() {
+    in_catalogues();
+    single_bytes();
+    cut_in_two();
+    kilobytes();
 }

@@ -1,9 +1,11 @@
 // Runs the published figures over the proved code. What it writes is held to the file stdout beside src/.
 mod checksums;
+mod numbers;
 mod ranges;
 mod text;
 
 fn main() {
     checksums::run();
+    numbers::run();
     ranges::run();
 }

@@ -1,14 +1,13 @@
 -- Laws of little-endian numbers, over the width.
 -- Assumes nothing.
-use Prim.Native.Nat.{ℕ, zero, suc, _+_, _*_, _≤_, _<_}
-use mathlib.Core.Path.{_≡_, refl, sym, ap, _∙_}
+use Prim.Native.Nat.{ℕ, zero, suc, _+_, _≤_, _<_}
+use mathlib.Core.Path.{_≡_, refl, ap}
 use mathlib.Core.List.{List, [], _∷_}
 use native.Mathlib.Nat.{add-zero, add-suc}
 use native.Mathlib.Omega.{arith}
 use lib.ListN.{length, take, drop, getD}
 use lib.Seq.{drop-cons}
 use borrow.Author.Tests.{le-leb}
-use Rattle.wire.specs.declared.number.Reading.{Reading}
 use Rattle.wire.specs.declared.number.Reading.the-variants.{Number, Missing}
 use Rattle.wire.specs.declared.range.Place.the-variants.{Inside, Outside}
 use Rattle.wire.specs.Range.{placeIn}

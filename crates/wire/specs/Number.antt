@@ -1,6 +1,6 @@
--- Little-endian numbers (01: "numbers little-endian"), over the number of their bytes.
+-- Little-endian numbers (01, "uartboot session" and "Dual image": numbers little-endian), over how many bytes they have.
 -- Assumes nothing.
-use Prim.Native.Nat.{ℕ, zero, suc, _+_, _*_}
+use Prim.Native.Nat.{ℕ, _+_, _*_}
 use mathlib.Core.List.{List, [], _∷_}
 use mathlib.Core.Bool.{cond}
 use lib.ListN.{length, take, drop}

@@ -1,4 +1,5 @@
--- Ranges (01: "a range not wholly in its memory"). The sums are sums of natural numbers: 0xFFFFFFFF plus 1 is 0x100000000.
+-- Ranges (01, "Numbers given back", reason 16: a range not wholly in its memory). The sums are sums of natural numbers, so
+-- 0xFFFFFFFF plus 1 is 0x100000000.
 -- Assumes nothing.
 use Prim.Native.Nat.{ℕ, _+_, _-_}
 use mathlib.Core.Bool.{Bool, _&&_, cond}

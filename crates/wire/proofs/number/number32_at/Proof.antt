@@ -1,6 +1,6 @@
 -- `wire::number::number32_at`: the bytes read are those from the place on.
 -- Assumes nothing.
-use mathlib.Core.Path.{_≡_, sym, ap, _∙_}
+use mathlib.Core.Path.{sym, _∙_}
 use Rattle.wire.proofs.Numbers.{number-at}
 use borrow.Author.Needs.{needs}
 use Rattle.wire.proofs.number.number32_at.Statement.{statement}

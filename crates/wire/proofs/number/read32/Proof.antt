@@ -1,6 +1,6 @@
 -- `wire::number::read32`: the place is judged first, by the rule for ranges.
 -- Assumes nothing.
-use mathlib.Core.Path.{_≡_, sym, ap, _∙_}
+use mathlib.Core.Path.{sym, ap, _∙_}
 use Rattle.wire.specs.declared.number.Reading.the-variants.{Number}
 use Rattle.wire.proofs.Numbers.{read-inside, read-outside, inside-fits}
 use borrow.Author.Needs.{needs}

@@ -1,6 +1,6 @@
 -- `wire::range::place_in`: each return by the tests that led there.
 -- Assumes nothing.
-use mathlib.Core.Path.{_≡_, sym, ap, _∙_}
+use mathlib.Core.Path.{sym}
 use native.Mathlib.Omega.{arith}
 use Rattle.wire.proofs.Ranges.{range-inside, range-before, range-beyond}
 use Rattle.wire.proofs.range.place_in.Statement.{statement}
