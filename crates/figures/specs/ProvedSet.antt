@@ -1,4 +1,5 @@
--- The figures of 01 that are marked * ("Figures on both sides"), as one table and one statement.
+-- Figures of 01 that are marked * ("Figures on both sides"), as one table and one statement: those whose definitions stand, so far
+-- the CRCs.
 -- Assumes nothing.
 use Prim.Native.Nat.{ℕ}
 use mathlib.Core.Path.{_≡_}

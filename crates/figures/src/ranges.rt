@@ -6,7 +6,14 @@ use wire::range::Place;
 use wire::unit::FlashOffset;
 use wire::unit::RamAddress;
 
-fn verdict(place: Place) {
+fn line(memory: &[u8], length: usize, count: usize, start: u32, place: Place) {
+    text(memory);
+    text(b" of ");
+    decimal(length as u64);
+    text(b", ");
+    decimal(count as u64);
+    text(b" from ");
+    hex(start as u64, 8);
     match place {
         Place::Inside(at) => {
             text(b": from byte ");
@@ -18,23 +25,23 @@ fn verdict(place: Place) {
 }
 
 fn ram(address: u32, count: usize, length: usize) {
-    text(b"RAM of ");
-    decimal(length as u64);
-    text(b", ");
-    decimal(count as u64);
-    text(b" from ");
-    hex(address as u64, 8);
-    verdict(RamAddress(address).place(count, length));
+    line(
+        b"RAM",
+        length,
+        count,
+        address,
+        RamAddress(address).place(count, length),
+    );
 }
 
 fn flash(offset: u32, count: usize, length: usize) {
-    text(b"flash of ");
-    decimal(length as u64);
-    text(b", ");
-    decimal(count as u64);
-    text(b" from ");
-    hex(offset as u64, 8);
-    verdict(FlashOffset(offset).place(count, length));
+    line(
+        b"flash",
+        length,
+        count,
+        offset,
+        FlashOffset(offset).place(count, length),
+    );
 }
 
 pub fn run() {

@@ -17,6 +17,6 @@ numberOf (b ∷ bs) = b + 256 * numberOf bs
 unfoldable pub numberAt : (width : ℕ) (bytes : List ℕ) (place : ℕ) → ℕ
 numberAt width bytes place = numberOf (take width (drop place bytes))
 
--- the same, where all these bytes are there
+-- the same where all these bytes are there, and else that they are missing
 unfoldable pub readAt : (width : ℕ) (bytes : List ℕ) (place : ℕ) → Reading
 readAt width bytes place = cond (leb (place + width) (length bytes)) (Number (numberAt width bytes place)) Missing

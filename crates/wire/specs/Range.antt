@@ -11,6 +11,6 @@ use Rattle.wire.specs.declared.range.Place.the-variants.{Inside, Outside
 unfoldable pub liesIn : (start count base length : ℕ) → Bool
 liesIn start count base length = leb base start && leb (start + count) (base + length)
 
--- and then, where the first of them lies there
+-- where such a range begins in the memory
 unfoldable pub placeIn : (start count base length : ℕ) → Place
 placeIn start count base length = cond (liesIn start count base length) (Inside (start - base)) Outside

@@ -4,9 +4,9 @@ ghost use Rattle.wire.specs.Range.{placeIn};
 
 // Where a range begins in its memory.
 pub enum Place {
-    // The range lies wholly in the memory; the index of its first byte there.
+    // The range lies wholly in the memory; the index there at which it begins.
     Inside(usize),
-    // At least one of its bytes does not lie in the memory.
+    // It does not.
     Outside,
 }
 
