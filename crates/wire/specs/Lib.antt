@@ -1,3 +1,4 @@
+pub mod Length
 pub mod Number
 pub mod Range
 pub mod Unit

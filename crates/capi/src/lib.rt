@@ -1,0 +1,42 @@
+// The functions that C calls: numbers by value, byte slices as pointer and length, results by value.
+ghost use mathlib.Core.Path.{_≡_};
+ghost use Rattle.version.specs.Rank.{rankOf};
+ghost use Rattle.version.specs.Order.{orderOf};
+ghost use Rattle.slot.specs.Slot.{selectOf};
+ghost use Rattle.offer.specs.Offer.{offerOf};
+use offer::Offered;
+use slot::Selected;
+use version::order::Ordered;
+use version::rank::Ranked;
+
+// The rank of a version field.
+#[no_mangle]
+pub extern "C" fn und_rank(field: &[u8]) -> Ranked
+    ensures { λ r. ⌜ r ≡ rankOf (now (field .entry)) ⌝ }
+{
+    version::rank::rank(field)
+}
+
+// The order of two version fields.
+#[no_mangle]
+pub extern "C" fn und_order(a: &[u8], b: &[u8]) -> Ordered
+    ensures { λ r. ⌜ r ≡ orderOf (now (a .entry)) (now (b .entry)) ⌝ }
+{
+    version::order::order(a, b)
+}
+
+// The flash slot that will start, by the product header at an offset.
+#[no_mangle]
+pub extern "C" fn und_select(flash: &[u8], header: u32) -> Selected
+    ensures { λ r. ⌜ r ≡ selectOf (now (flash .entry)) header ⌝ }
+{
+    slot::select(flash, header)
+}
+
+// Which of two image files wins, and where its code lies there.
+#[no_mangle]
+pub extern "C" fn und_offer(installed: &[u8], candidate: &[u8]) -> Offered
+    ensures { λ r. ⌜ r ≡ offerOf (now (installed .entry)) (now (candidate .entry)) ⌝ }
+{
+    offer::judge(installed, candidate)
+}

@@ -1,0 +1,40 @@
+-- The image header, 64 bytes, and the code behind it (01, "Dual image"). Numbers are little-endian; the time is not read.
+-- Each field is that of an image at an offset of a memory. Bytes past the memory's end count as 0.
+-- Assumes nothing.
+use Prim.Native.Nat.{ℕ, _+_}
+use mathlib.Core.List.{List}
+use mathlib.Core.Bool.{Bool, _&&_}
+use lib.Dec.{eqb}
+use lib.ListN.{getD, take, drop}
+use Rattle.wire.specs.Number.{numberAt}
+
+-- a mark: 70, and a byte that tells an image header from a product header
+abbrev pub isMarked : (memory : List ℕ) (offset kind : ℕ) → Bool
+isMarked memory offset kind = eqb (getD memory offset 0) 0x70 && eqb (getD memory (offset + 1) 0) kind
+
+abbrev pub flagAt : (memory : List ℕ) (offset : ℕ) → ℕ
+flagAt memory offset = getD memory (offset + 2) 0
+
+abbrev pub idAt : (memory : List ℕ) (offset : ℕ) → ℕ
+idAt memory offset = getD memory (offset + 3) 0
+
+-- how many bytes of code there are
+abbrev pub sizeAt : (memory : List ℕ) (offset : ℕ) → ℕ
+sizeAt memory offset = numberAt 4 memory (offset + 4)
+
+-- the CRC that the code should have
+abbrev pub crcAt : (memory : List ℕ) (offset : ℕ) → ℕ
+crcAt memory offset = numberAt 4 memory (offset + 8)
+
+-- the version's field of 16 bytes
+abbrev pub versionAt : (memory : List ℕ) (offset : ℕ) → List ℕ
+versionAt memory offset = take 16 (drop (offset + 12) memory)
+
+abbrev pub encryptedAt : (memory : List ℕ) (offset : ℕ) → ℕ
+encryptedAt memory offset = getD memory (offset + 32) 0
+
+abbrev pub headerLength : ℕ
+headerLength = 64
+
+abbrev pub codeAt : (memory : List ℕ) (offset : ℕ) → List ℕ
+codeAt memory offset = take (sizeAt memory offset) (drop (offset + headerLength) memory)

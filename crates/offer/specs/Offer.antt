@@ -1,0 +1,56 @@
+-- An offer of two image files (01, "Version text" and "Numbers given back": offer).
+-- Assumes nothing.
+use Prim.Native.Nat.{ℕ}
+use mathlib.Core.List.{List, []}
+use mathlib.Core.Bool.{cond}
+use lib.Dec.{eqb}
+use Rattle.version.specs.Rank.{malformed}
+use Rattle.version.specs.declared.order.Comparison.{Comparison}
+use Rattle.version.specs.declared.order.Comparison.the-variants.{Lower, Same, Higher, Malformed}
+use Rattle.version.specs.Order.{comparedFields}
+use Rattle.image.specs.declared.Image.{Image}
+use Rattle.image.specs.declared.Image.the-variants.{Valid, Invalid}
+use Rattle.image.specs.Header.{versionAt, headerLength, codeAt}
+use Rattle.image.specs.Valid.{imageAt}
+use Rattle.offer.specs.declared.Offered.{Offered}
+
+-- the numbers given where the installed image, or the candidate, is not valid
+abbrev pub badInstalled : ℕ
+badInstalled = 62
+
+abbrev pub badCandidate : ℕ
+badCandidate = 63
+
+-- how the files are called
+abbrev pub installedFile : ℕ
+installedFile = 1
+
+abbrev pub candidateFile : ℕ
+candidateFile = 2
+
+abbrev pub refused : (number : ℕ) → Offered
+refused number = record { number = number; file = 0; place = 0; size = 0 }
+
+-- a file wins; its code begins behind the header
+abbrev pub wins : (file size : ℕ) → Offered
+wins file size = record { number = 0; file = file; place = headerLength; size = size }
+
+-- by both images, and by how the installed version stands to the candidate's: the higher version wins, the installed one if equal
+abbrev pub judged : (installed candidate : Image) → Comparison → Offered
+judged Invalid candidate versions = refused badInstalled
+judged (Valid id size) Invalid versions = refused badCandidate
+judged (Valid id size) (Valid id′ size′) Malformed = refused malformed
+judged (Valid id size) (Valid id′ size′) Lower = wins candidateFile size′
+judged (Valid id size) (Valid id′ size′) Same = wins installedFile size
+judged (Valid id size) (Valid id′ size′) Higher = wins installedFile size
+
+unfoldable pub offerOf : (installed candidate : List ℕ) → Offered
+offerOf installed candidate =
+    judged (imageAt installed 0) (imageAt candidate 0) (comparedFields (versionAt installed 0) (versionAt candidate 0))
+
+-- the code of whichever file wins, and nothing where neither does
+unfoldable pub offerCode : (installed candidate : List ℕ) → List ℕ
+offerCode installed candidate =
+    cond (eqb (offerOf installed candidate .file) installedFile) (codeAt installed 0)
+    (cond (eqb (offerOf installed candidate .file) candidateFile) (codeAt candidate 0)
+    [])

@@ -1,0 +1,3 @@
+pub mod Id
+pub mod Slot
+pub mod Refusal

@@ -1,0 +1,101 @@
+// The flash slot that will start: the product header names two images, and the newer valid one starts.
+ghost use mathlib.Core.Path.{_≡_};
+ghost use mathlib.Core.Bool.{cond};
+ghost use Rattle.slot.specs.Id.{isNewer};
+ghost use Rattle.slot.specs.Slot.{refused, starts, chosen, selectOf};
+use image::Image;
+use image::image_at;
+use image::is_marked;
+use wire::length::BAD_FLASH;
+use wire::length::is_flash_length;
+use wire::number::number32_at;
+use wire::range::Place;
+use wire::unit::FlashOffset;
+
+// The product header's length, and the second byte of its mark.
+const PRODUCT: usize = 12;
+
+const PRODUCT_MARK: u8 = 0x52;
+
+// The numbers given where the product header does not lie in the flash, its mark is wrong, neither image is valid.
+pub const NO_HEADER: u32 = 51;
+
+pub const WRONG_MARK: u32 = 52;
+
+pub const NO_IMAGE: u32 = 53;
+
+// The number 0 and slot 1 or 2, or a refusal's number and slot 0.
+#[repr(C)]
+pub struct Selected {
+    pub number: u32,
+    pub slot: u32,
+}
+
+fn refused(number: u32) -> Selected
+    ensures { λ r. ⌜ r ≡ refused number ⌝ }
+{
+    Selected {
+        number: number,
+        slot: 0,
+    }
+}
+
+fn starts(slot: u32) -> Selected
+    ensures { λ r. ⌜ r ≡ starts slot ⌝ }
+{
+    Selected {
+        number: 0,
+        slot: slot,
+    }
+}
+
+// Whether an image id is newer than another.
+fn is_newer(id: u8, than: u8) -> bool
+    ensures { λ r. ⌜ r ≡ isNewer id than ⌝ }
+{
+    than < id
+}
+
+fn newer(id: u8, other: u8) -> Selected
+    ensures { λ r. ⌜ r ≡ starts (cond (isNewer other id) 2 1) ⌝ }
+{
+    if is_newer(other, id) {
+        starts(2)
+    } else {
+        starts(1)
+    }
+}
+
+fn choose(first: Image, second: Image) -> Selected
+    ensures { λ r. ⌜ r ≡ chosen first second ⌝ }
+{
+    match first {
+        Image::Valid(id, _) => match second {
+            Image::Valid(other, _) => newer(id, other),
+            Image::Invalid => starts(1),
+        },
+        Image::Invalid => match second {
+            Image::Valid(_, _) => starts(2),
+            Image::Invalid => refused(NO_IMAGE),
+        },
+    }
+}
+
+// The slot that will start, by the product header at an offset of the flash.
+pub fn select(flash: &[u8], header: u32) -> Selected
+    ensures { λ r. ⌜ r ≡ selectOf (now (flash .entry)) header ⌝ }
+{
+    if !is_flash_length(flash.len()) {
+        return refused(BAD_FLASH);
+    }
+    let Place::Inside(_) = FlashOffset(header).place(PRODUCT, flash.len()) else {
+        return refused(NO_HEADER);
+    };
+    let start = header as usize;
+    if !is_marked(flash, start, PRODUCT_MARK) {
+        return refused(WRONG_MARK);
+    }
+    let first = image_at(flash, number32_at(flash, start + 4) as usize);
+    let second = image_at(flash, number32_at(flash, start + 8) as usize);
+    choose(first, second)
+}

@@ -1,0 +1,4 @@
+pub mod Text
+pub mod Rank
+pub mod Order
+pub mod Decimal

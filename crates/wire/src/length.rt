@@ -1,0 +1,24 @@
+// The lengths that memories may have.
+ghost use mathlib.Core.Path.{_≡_};
+ghost use Rattle.wire.specs.Length.{isFlashLength};
+
+// How many bytes a sector of flash has.
+pub const SECTOR: usize = 4_096;
+
+const LARGEST_FLASH: usize = 4_194_304;
+
+// The number given for flash of any other length.
+pub const BAD_FLASH: u32 = 3;
+
+// Whether a flash may have this length.
+pub fn is_flash_length(length: usize) -> bool
+    ensures { λ r. ⌜ r ≡ isFlashLength length ⌝ }
+{
+    if length == 0 {
+        return false;
+    }
+    if length % SECTOR != 0 {
+        return false;
+    }
+    length <= LARGEST_FLASH
+}
