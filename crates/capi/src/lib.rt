@@ -27,10 +27,10 @@ pub extern "C" fn und_order(a: &[u8], b: &[u8]) -> Ordered
 
 // The flash slot that will start, by the product header at an offset.
 #[no_mangle]
-pub extern "C" fn und_select(flash: &[u8], header: u32) -> Selected
-    ensures { λ r. ⌜ r ≡ selectOf (now (flash .entry)) header ⌝ }
+pub extern "C" fn und_select(flash: &[u8], offset: u32) -> Selected
+    ensures { λ r. ⌜ r ≡ selectOf (now (flash .entry)) offset ⌝ }
 {
-    slot::select(flash, header)
+    slot::select(flash, offset)
 }
 
 // Which of two image files wins, and where its code lies there.

@@ -3,8 +3,11 @@
 use mathlib.Core.Path.{refl}
 use Rattle.crc.specs.Register.{leaving, moved, placed, afterBit, afterBits, afterByte, after}
 use Rattle.crc.specs.Crc.{crcOf}
+use Rattle.version.specs.Text.{isNumber, wellFormed}
+use Rattle.version.specs.Rank.{rankOf}
+use Rattle.version.specs.Order.{comparedFields, orderOf}
 use Rattle.figures.specs.ProvedSet.{AllHold, provedSet}
 
 pub proved-set : AllHold provedSet
-unfolding leaving moved placed afterBit afterBits afterByte after crcOf
-proved-set = (refl, (refl, tt))
+unfolding leaving moved placed afterBit afterBits afterByte after crcOf isNumber wellFormed rankOf comparedFields orderOf
+proved-set = (refl, (refl, (refl, (refl, (refl, (refl, (refl, (refl, (refl, (refl, tt))))))))))

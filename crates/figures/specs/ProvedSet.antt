@@ -1,11 +1,17 @@
 -- Figures of 01 that are marked * ("Figures on both sides"), as one table and one statement: those whose definitions stand, so far
--- the CRCs.
+-- versions, ids and CRCs.
 -- Assumes nothing.
-use Prim.Native.Nat.{ℕ}
+use Prim.Native.Nat.{ℕ, _-_}
 use mathlib.Core.Path.{_≡_}
-use mathlib.Core.List.{List, [], _∷_}
+use mathlib.Core.List.{List, [], _∷_, _++_}
+use lib.IntN.{pos, negsuc}
+use lib.ListN.{length, replicate}
 use Rattle.crc.specs.Rule.{rule16, rule32}
 use Rattle.crc.specs.Crc.{crcOf}
+use Rattle.version.specs.Rank.{rankOf}
+use Rattle.version.specs.Order.{orderOf}
+use Rattle.image.specs.declared.Image.the-variants.{Valid}
+use Rattle.slot.specs.Slot.{chosen}
 
 infix 10 _is_
 -- what a definition gives, and what 01 says
@@ -17,12 +23,42 @@ abbrev pub AllHold : List Figure → Type 0
 AllHold [] = Unit {0}
 AllHold ((given is said) ∷ figures) = (given ≡ said) × AllHold figures
 
+-- a version's text with 00 up to byte 16
+abbrev padded : List ℕ → List ℕ
+padded text = text ++ replicate (16 - length text) 0
+
+-- 1.9, 1.10, 1.9.0, 01.2, 65535.65535.6553
+abbrev v1-9 : List ℕ
+v1-9 = padded (0x31 ∷ 0x2E ∷ 0x39 ∷ [])
+
+abbrev v1-10 : List ℕ
+v1-10 = padded (0x31 ∷ 0x2E ∷ 0x31 ∷ 0x30 ∷ [])
+
+abbrev v1-9-0 : List ℕ
+v1-9-0 = padded (0x31 ∷ 0x2E ∷ 0x39 ∷ 0x2E ∷ 0x30 ∷ [])
+
+abbrev v01-2 : List ℕ
+v01-2 = padded (0x30 ∷ 0x31 ∷ 0x2E ∷ 0x32 ∷ [])
+
+abbrev v65535-65535-6553 : List ℕ
+v65535-65535-6553 =
+    0x36 ∷ 0x35 ∷ 0x35 ∷ 0x33 ∷ 0x35 ∷ 0x2E ∷ 0x36 ∷ 0x35 ∷ 0x35 ∷ 0x33 ∷ 0x35 ∷ 0x2E ∷ 0x36 ∷ 0x35 ∷ 0x35 ∷ 0x33 ∷ []
+
 -- the bytes of 123456789
 abbrev digits : List ℕ
 digits = 0x31 ∷ 0x32 ∷ 0x33 ∷ 0x34 ∷ 0x35 ∷ 0x36 ∷ 0x37 ∷ 0x38 ∷ 0x39 ∷ []
 
+-- the images of the ids have one byte of code each
 abbrev pub provedSet : List Figure
 provedSet =
-    (crcOf rule16 digits is 0x29B1)
+    (orderOf v1-9 v1-10 is record { number = 0; order = negsuc 0 })
+    ∷ (orderOf v1-9 v1-9-0 is record { number = 0; order = pos 0 })
+    ∷ (rankOf v01-2 is record { number = 61; rank = 0 ∷ 0 ∷ 0 ∷ 0 ∷ [] })
+    ∷ (rankOf (replicate 16 0) is record { number = 61; rank = 0 ∷ 0 ∷ 0 ∷ 0 ∷ [] })
+    ∷ (rankOf v65535-65535-6553 is record { number = 0; rank = 65535 ∷ 65535 ∷ 6553 ∷ 0 ∷ [] })
+    ∷ (chosen (Valid 9 1) (Valid 10 1) is record { number = 0; slot = 2 })
+    ∷ (chosen (Valid 10 1) (Valid 9 1) is record { number = 0; slot = 1 })
+    ∷ (chosen (Valid 7 1) (Valid 7 1) is record { number = 0; slot = 1 })
+    ∷ (crcOf rule16 digits is 0x29B1)
     ∷ (crcOf rule32 digits is 0xCBF4_3926)
     ∷ []

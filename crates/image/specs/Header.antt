@@ -1,5 +1,6 @@
--- The image header, 64 bytes, and the code behind it (01, "Dual image"). Numbers are little-endian; the time is not read.
--- Each field is that of an image at an offset of a memory. Bytes past the memory's end count as 0.
+-- The image header, 64 bytes, and the code behind it (01, "Dual image"). Numbers are little-endian. The time, at 28, and the reserved
+-- bytes from 33 on are not read. Each field is that of an image at an offset of a memory; a number that lies past the memory's end
+-- counts as 0, and a range of bytes ends with the memory.
 -- Assumes nothing.
 use Prim.Native.Nat.{ℕ, _+_}
 use mathlib.Core.List.{List}
@@ -8,9 +9,9 @@ use lib.Dec.{eqb}
 use lib.ListN.{getD, take, drop}
 use Rattle.wire.specs.Number.{numberAt}
 
--- a mark: 70, and a byte that tells an image header from a product header
-abbrev pub isMarked : (memory : List ℕ) (offset kind : ℕ) → Bool
-isMarked memory offset kind = eqb (getD memory offset 0) 0x70 && eqb (getD memory (offset + 1) 0) kind
+-- a mark: 70, and a second byte that tells an image header, 51, from a product header, 52
+abbrev pub isMarked : (memory : List ℕ) (offset second : ℕ) → Bool
+isMarked memory offset second = eqb (getD memory offset 0) 0x70 && eqb (getD memory (offset + 1) 0) second
 
 abbrev pub flagAt : (memory : List ℕ) (offset : ℕ) → ℕ
 flagAt memory offset = getD memory (offset + 2) 0

@@ -11,6 +11,10 @@ use Rattle.image.specs.declared.Image.{Image}
 use Rattle.image.specs.declared.Image.the-variants.{Valid, Invalid}
 use Rattle.image.specs.Header.{isMarked, flagAt, idAt, sizeAt, crcAt, encryptedAt, headerLength, codeAt}
 
+-- the flag of a valid image
+abbrev pub validFlag : ℕ
+validFlag = 0xAA
+
 abbrev pub largestSize : ℕ
 largestSize = 131072
 
@@ -18,7 +22,7 @@ largestSize = 131072
 unfoldable pub isValid : (memory : List ℕ) (offset : ℕ) → Bool
 isValid memory offset =
     isMarked memory offset 0x51
-    && (eqb (flagAt memory offset) 0xAA
+    && (eqb (flagAt memory offset) validFlag
     && (leb 1 (sizeAt memory offset)
     && (leb (sizeAt memory offset) largestSize
     && (leb (offset + headerLength + sizeAt memory offset) (length memory)

@@ -16,7 +16,7 @@ pub const HEADER: usize = 64;
 const IMAGE_MARK: u8 = 0x51;
 
 // The flag of a valid image.
-const VALID: u8 = 0xAA;
+const VALID_FLAG: u8 = 0xAA;
 
 // The largest size of the code.
 const LARGEST: usize = 131_072;
@@ -28,15 +28,15 @@ pub enum Image {
     Invalid,
 }
 
-// Whether a header has the mark 70 and `kind`.
-pub fn is_marked(memory: &[u8], offset: usize, kind: u8) -> bool
+// Whether a header has the mark 70 and `second`.
+pub fn is_marked(memory: &[u8], offset: usize, second: u8) -> bool
     requires { ⌜ offset + 2 ≤ length (now memory) ⌝ }
-    ensures { λ r. ⌜ r ≡ isMarked (now (memory .entry)) offset kind ⌝ }
+    ensures { λ r. ⌜ r ≡ isMarked (now (memory .entry)) offset second ⌝ }
 {
     if memory[offset] != 0x70 {
         return false;
     }
-    memory[offset + 1] == kind
+    memory[offset + 1] == second
 }
 
 // Whether the image is valid whose header begins at an offset.
@@ -47,7 +47,7 @@ fn is_valid(memory: &[u8], offset: usize) -> bool
     if !is_marked(memory, offset, IMAGE_MARK) {
         return false;
     }
-    if memory[offset + 2] != VALID {
+    if memory[offset + 2] != VALID_FLAG {
         return false;
     }
     let size = number32_at(memory, offset + 4) as usize;

@@ -4,7 +4,9 @@ use Prim.Native.Nat.{ℕ}
 use mathlib.Core.List.{List, []}
 use mathlib.Core.Bool.{cond}
 use lib.Dec.{eqb}
-use Rattle.version.specs.Rank.{malformed}
+use denote.Ref.{RefT, now}
+use Rattle.wire.specs.Part.{IsPart}
+use Rattle.version.specs.Rank.{malformedText}
 use Rattle.version.specs.declared.order.Comparison.{Comparison}
 use Rattle.version.specs.declared.order.Comparison.the-variants.{Lower, Same, Higher, Malformed}
 use Rattle.version.specs.Order.{comparedFields}
@@ -21,7 +23,7 @@ badInstalled = 62
 abbrev pub badCandidate : ℕ
 badCandidate = 63
 
--- how the files are called
+-- the numbers that stand for the files
 abbrev pub installedFile : ℕ
 installedFile = 1
 
@@ -39,7 +41,7 @@ wins file size = record { number = 0; file = file; place = headerLength; size = 
 abbrev pub judged : (installed candidate : Image) → Comparison → Offered
 judged Invalid candidate versions = refused badInstalled
 judged (Valid id size) Invalid versions = refused badCandidate
-judged (Valid id size) (Valid id′ size′) Malformed = refused malformed
+judged (Valid id size) (Valid id′ size′) Malformed = refused malformedText
 judged (Valid id size) (Valid id′ size′) Lower = wins candidateFile size′
 judged (Valid id size) (Valid id′ size′) Same = wins installedFile size
 judged (Valid id size) (Valid id′ size′) Higher = wins installedFile size
@@ -47,6 +49,16 @@ judged (Valid id size) (Valid id′ size′) Higher = wins installedFile size
 unfoldable pub offerOf : (installed candidate : List ℕ) → Offered
 offerOf installed candidate =
     judged (imageAt installed 0) (imageAt candidate 0) (comparedFields (versionAt installed 0) (versionAt candidate 0))
+
+-- the file that an offer names; the installed one where it names none
+abbrev pub fileOf : {A : Type 0} → Offered → (installed candidate : A) → A
+fileOf offered installed candidate = cond (eqb (offered .file) candidateFile) candidate installed
+
+-- what an offer hands back: the part that it names of the file that it names, so an empty part of the installed file where it is refused
+abbrev pub HandsBack : (installed candidate part : RefT (List ℕ)) → Type 0
+HandsBack installed candidate part =
+    let offered = offerOf (now installed) (now candidate) in
+    IsPart part (fileOf offered installed candidate) (offered .place) (offered .size)
 
 -- the code of whichever file wins, and nothing where neither does
 unfoldable pub offerCode : (installed candidate : List ℕ) → List ℕ

@@ -1,9 +1,6 @@
 // An offer: of two image files, the installed one and a candidate, the one with the higher version.
 ghost use mathlib.Core.Path.{_≡_};
-ghost use lib.ListN.{take, drop};
-ghost use Rattle.version.specs.Order.{comparedFields};
-ghost use Rattle.image.specs.Header.{versionAt};
-ghost use Rattle.offer.specs.Offer.{refused, wins, judged, offerOf, offerCode};
+ghost use Rattle.offer.specs.Offer.{refused, wins, offerOf, HandsBack};
 use image::HEADER;
 use image::Image;
 use image::image_at;
@@ -17,7 +14,7 @@ pub const BAD_INSTALLED: u32 = 62;
 
 pub const BAD_CANDIDATE: u32 = 63;
 
-// How the files are called.
+// The numbers that stand for the files.
 pub const INSTALLED: u32 = 1;
 
 pub const CANDIDATE: u32 = 2;
@@ -74,7 +71,7 @@ pub fn judge(installed: &[u8], candidate: &[u8]) -> Offered
 // The code of the file that wins, as a part of that file, and the offer's number. Where the offer is refused, the part is the
 // installed file's first 0 bytes.
 pub fn offer<'a>(installed: &'a [u8], candidate: &'a [u8], number: &mut u32) -> &'a [u8]
-    ensures { λ r. ⌜ now r ≡ offerCode (now (installed .entry)) (now (candidate .entry)) ⌝ }
+    ensures { λ r. ⌜ HandsBack (installed .entry) (candidate .entry) r ⌝ }
     ensures { λ _. ⌜ now (number .exit) ≡ offerOf (now (installed .entry)) (now (candidate .entry)) .number ⌝ }
 {
     let offered = judge(installed, candidate);

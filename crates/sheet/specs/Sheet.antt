@@ -1,10 +1,12 @@
 -- An image sheet (01, "Version text", its last two sentences, and "Numbers given back": sheet).
 -- Assumes nothing.
-use Prim.Native.Nat.{ℕ, _+_}
-use mathlib.Core.List.{List, []}
-use mathlib.Core.Bool.{cond}
-use lib.Dec.{leb}
-use lib.ListN.{length, take, drop}
+use Prim.Native.Nat.{ℕ}
+use mathlib.Core.List.{List}
+use mathlib.Core.Bool.{Bool, cond}
+use lib.ListN.{length}
+use denote.Ref.{RefT, now}
+use Rattle.wire.specs.Part.{IsPart}
+use Rattle.wire.specs.Range.{liesIn}
 use Rattle.image.specs.declared.Image.{Image}
 use Rattle.image.specs.declared.Image.the-variants.{Valid, Invalid}
 use Rattle.image.specs.Header.{headerLength}
@@ -27,7 +29,11 @@ placeOf file = placed (imageAt file 0)
 unfoldable pub codePlace : (file : List ℕ) → ℕ
 codePlace file = placeOf file .place
 
--- what a sheet shows that holds a file and any place: as many bytes from there on as the file has code, or none where these do not
--- lie in the file
-unfoldable pub codePart : (file : List ℕ) (place : ℕ) → List ℕ
-codePart file place = cond (leb (place + placeOf file .size) (length file)) (take (placeOf file .size) (drop place file)) []
+-- the file's code, or as many other bytes, lies from a place on
+unfoldable pub liesFrom : (file : List ℕ) (place : ℕ) → Bool
+liesFrom file place = liesIn place (placeOf file .size) 0 (length file)
+
+-- what a sheet shows that holds a file and any place: so many bytes from there on, or an empty part where they do not lie in the file
+abbrev pub Shows : (file : RefT (List ℕ)) (place : ℕ) (part : RefT (List ℕ)) → Type 0
+Shows file place part =
+    IsPart part file (cond (liesFrom (now file) place) place 0) (cond (liesFrom (now file) place) (placeOf (now file) .size) 0)

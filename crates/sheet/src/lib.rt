@@ -1,6 +1,6 @@
 // An image sheet: a lent file together with the place of its code, for a display.
 ghost use mathlib.Core.Path.{_≡_};
-ghost use Rattle.sheet.specs.Sheet.{placed, placeOf, codePlace, codePart};
+ghost use Rattle.sheet.specs.Sheet.{placeOf, codePlace, Shows};
 use image::HEADER;
 use image::Image;
 use image::image_at;
@@ -11,7 +11,6 @@ use wire::range::place_in;
 pub const BAD_FILE: u32 = 67;
 
 // Where a file's code lies, with the number 0; or 67 and zeros.
-#[repr(C)]
 pub struct Placed {
     pub number: u32,
     pub place: usize,
@@ -49,9 +48,9 @@ pub fn code_place(file: &[u8]) -> usize
     placed.place
 }
 
-// What a sheet shows that holds this file and place. Where there is nothing to show, it is the file's first 0 bytes.
+// What a sheet shows that holds this file and place.
 pub fn part_at<'a>(file: &'a [u8], place: usize) -> &'a [u8]
-    ensures { λ r. ⌜ now r ≡ codePart (now (file .entry)) place ⌝ }
+    ensures { λ r. ⌜ Shows (file .entry) place r ⌝ }
 {
     let placed = place_of(file);
     let size = placed.size;
@@ -71,14 +70,14 @@ pub fn sheet_of<'a>(file: &'a [u8]) -> Sheet<'a>
 
 // The code part that a sheet shows.
 pub fn code<'a>(sheet: Sheet<'a>) -> &'a [u8]
-    ensures { λ r. ⌜ now r ≡ codePart (now (sheet .entry .file)) (sheet .entry .place) ⌝ }
+    ensures { λ r. ⌜ Shows (sheet .entry .file) (sheet .entry .place) r ⌝ }
 {
     part_at(sheet.file, sheet.place)
 }
 
 // The code part that a file's sheet shows.
 pub fn code_of<'a>(file: &'a [u8]) -> &'a [u8]
-    ensures { λ r. ⌜ now r ≡ codePart (now (file .entry)) (codePlace (now (file .entry))) ⌝ }
+    ensures { λ r. ⌜ Shows (file .entry) (codePlace (now (file .entry))) r ⌝ }
 {
     code(sheet_of(file))
 }

@@ -11,8 +11,8 @@ use Rattle.image.specs.declared.Image.the-variants.{Valid, Invalid}
 use Rattle.image.specs.Header.{idAt, sizeAt}
 use Rattle.image.specs.Valid.{isValid, imageAt}
 use Rattle.slot.specs.Id.{isNewer}
-use Rattle.slot.specs.Slot.{firstOffset, secondOffset, chosen, selectOf}
-use Rattle.slot.specs.Refusal.{NeitherValid, RefusedExactly}
+use Rattle.slot.specs.Slot.{firstOffset, secondOffset, chosen, noImage, refused, selectOf}
+use Rattle.slot.specs.Refusal.{RefusedExactly}
 
 -- an image by whether it is valid
 abbrev image : Bool → (id size : ℕ) → Image
@@ -28,10 +28,15 @@ by-images true false i m j n = (λ e. absurd (omega (arith, e)), λ e. let z : _
 by-images false true i m j n = (λ e. absurd (omega (arith, e)), λ e. let z : _≡_ {A = ℕ} 0 1 = cc in omega arith)
 by-images false false i m j n = (λ e. (refl, refl), λ e. refl)
 
-pub refused-exactly : (flash : List ℕ) (header : ℕ) → RefusedExactly flash header
+no-images : (v w : Bool) (i m j n : ℕ) → (v ≡ false) × (w ≡ false) → chosen (image v i m) (image w j n) ≡ refused noImage
+no-images v w i m j n e = simp (e .0, e .1)
+
+pub refused-exactly : (flash : List ℕ) (offset : ℕ) → RefusedExactly flash offset
 unfolding selectOf imageAt
-refused-exactly flash header sound inside marked =
-    let a = firstOffset flash header in
-    let b = secondOffset flash header in
-    simp (sound, inside, marked)
-    (by-images (isValid flash a) (isValid flash b) (idAt flash a) (sizeAt flash a) (idAt flash b) (sizeAt flash b))
+refused-exactly flash offset sound inside marked =
+    let a = firstOffset flash offset in
+    let b = secondOffset flash offset in
+    simp (sound, inside, marked) (
+      by-images (isValid flash a) (isValid flash b) (idAt flash a) (sizeAt flash a) (idAt flash b) (sizeAt flash b),
+      no-images (isValid flash a) (isValid flash b) (idAt flash a) (sizeAt flash a) (idAt flash b) (sizeAt flash b),
+    )

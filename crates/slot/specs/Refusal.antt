@@ -1,5 +1,5 @@
 -- When a slot is refused (01, "Numbers given back": selector): where flash length and product header are sound, exactly if neither
--- image is valid.
+-- image is valid, and then with 53.
 -- Assumes nothing.
 use Prim.Native.Nat.{ℕ}
 use mathlib.Core.Path.{_≡_}
@@ -9,14 +9,15 @@ use mathlib.Core.Logic.{_↔_}
 use lib.ListN.{length}
 use Rattle.wire.specs.Length.{isFlashLength}
 use Rattle.image.specs.Valid.{isValid}
-use Rattle.slot.specs.Slot.{productInside, productMarked, firstOffset, secondOffset, selectOf}
+use Rattle.slot.specs.Slot.{productInside, productMarked, firstOffset, secondOffset, noImage, refused, selectOf}
 
-abbrev pub NeitherValid : (flash : List ℕ) (header : ℕ) → Type 0
-NeitherValid flash header = (isValid flash (firstOffset flash header) ≡ false) × (isValid flash (secondOffset flash header) ≡ false)
+abbrev pub NeitherValid : (flash : List ℕ) (offset : ℕ) → Type 0
+NeitherValid flash offset = (isValid flash (firstOffset flash offset) ≡ false) × (isValid flash (secondOffset flash offset) ≡ false)
 
-abbrev pub RefusedExactly : (flash : List ℕ) (header : ℕ) → Type 0
-RefusedExactly flash header =
+abbrev pub RefusedExactly : (flash : List ℕ) (offset : ℕ) → Type 0
+RefusedExactly flash offset =
     isFlashLength (length flash) ≡ true
-    → productInside flash header ≡ true
-    → productMarked flash header ≡ true
-    → (selectOf flash header .slot ≡ 0) ↔ NeitherValid flash header
+    → productInside flash offset ≡ true
+    → productMarked flash offset ≡ true
+    → ((selectOf flash offset .slot ≡ 0) ↔ NeitherValid flash offset)
+    × (NeitherValid flash offset → selectOf flash offset ≡ refused noImage)

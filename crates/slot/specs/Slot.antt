@@ -2,10 +2,10 @@
 -- Assumes nothing.
 use Prim.Native.Nat.{ℕ, _+_}
 use mathlib.Core.List.{List}
-use mathlib.Core.Bool.{Bool, cond}
-use lib.Dec.{leb}
+use mathlib.Core.Bool.{Bool, cond, not}
 use lib.ListN.{length}
 use Rattle.wire.specs.Number.{numberAt}
+use Rattle.wire.specs.Range.{liesIn}
 use Rattle.wire.specs.Length.{isFlashLength, badFlash}
 use Rattle.image.specs.declared.Image.{Image}
 use Rattle.image.specs.declared.Image.the-variants.{Valid, Invalid}
@@ -34,17 +34,17 @@ starts slot = record { number = 0; slot = slot }
 abbrev pub productLength : ℕ
 productLength = 12
 
-unfoldable pub productInside : (flash : List ℕ) (header : ℕ) → Bool
-productInside flash header = leb (header + productLength) (length flash)
+unfoldable pub productInside : (flash : List ℕ) (offset : ℕ) → Bool
+productInside flash offset = liesIn offset productLength 0 (length flash)
 
-unfoldable pub productMarked : (flash : List ℕ) (header : ℕ) → Bool
-productMarked flash header = isMarked flash header 0x52
+unfoldable pub productMarked : (flash : List ℕ) (offset : ℕ) → Bool
+productMarked flash offset = isMarked flash offset 0x52
 
-abbrev pub firstOffset : (flash : List ℕ) (header : ℕ) → ℕ
-firstOffset flash header = numberAt 4 flash (header + 4)
+abbrev pub firstOffset : (flash : List ℕ) (offset : ℕ) → ℕ
+firstOffset flash offset = numberAt 4 flash (offset + 4)
 
-abbrev pub secondOffset : (flash : List ℕ) (header : ℕ) → ℕ
-secondOffset flash header = numberAt 4 flash (header + 8)
+abbrev pub secondOffset : (flash : List ℕ) (offset : ℕ) → ℕ
+secondOffset flash offset = numberAt 4 flash (offset + 8)
 
 -- of two valid images the newer starts, and slot 1 where neither is newer
 abbrev pub chosen : (first second : Image) → Selected
@@ -53,12 +53,10 @@ chosen (Valid id size) Invalid = starts 1
 chosen Invalid (Valid id′ size′) = starts 2
 chosen Invalid Invalid = refused noImage
 
-unfoldable pub selectOf : (flash : List ℕ) (header : ℕ) → Selected
-selectOf flash header =
-    cond (isFlashLength (length flash))
-    (cond (productInside flash header)
-    (cond (productMarked flash header)
-    (chosen (imageAt flash (firstOffset flash header)) (imageAt flash (secondOffset flash header)))
-    (refused wrongMark))
-    (refused noHeader))
-    (refused badFlash)
+-- the slot that starts, by the product header at an offset
+unfoldable pub selectOf : (flash : List ℕ) (offset : ℕ) → Selected
+selectOf flash offset =
+    cond (not (isFlashLength (length flash))) (refused badFlash)
+    (cond (not (productInside flash offset)) (refused noHeader)
+    (cond (not (productMarked flash offset)) (refused wrongMark)
+    (chosen (imageAt flash (firstOffset flash offset)) (imageAt flash (secondOffset flash offset)))))

@@ -56,22 +56,24 @@ fn is_newer(id: u8, than: u8) -> bool
     than < id
 }
 
-fn newer(id: u8, other: u8) -> Selected
-    ensures { λ r. ⌜ r ≡ starts (cond (isNewer other id) 2 1) ⌝ }
+// The slot of the newer id, or slot 1.
+fn slot_of(first: u8, second: u8) -> Selected
+    ensures { λ r. ⌜ r ≡ starts (cond (isNewer second first) 2 1) ⌝ }
 {
-    if is_newer(other, id) {
+    if is_newer(second, first) {
         starts(2)
     } else {
         starts(1)
     }
 }
 
+// Of two images, the slot that starts.
 fn choose(first: Image, second: Image) -> Selected
     ensures { λ r. ⌜ r ≡ chosen first second ⌝ }
 {
     match first {
         Image::Valid(id, _) => match second {
-            Image::Valid(other, _) => newer(id, other),
+            Image::Valid(other, _) => slot_of(id, other),
             Image::Invalid => starts(1),
         },
         Image::Invalid => match second {
@@ -82,16 +84,16 @@ fn choose(first: Image, second: Image) -> Selected
 }
 
 // The slot that will start, by the product header at an offset of the flash.
-pub fn select(flash: &[u8], header: u32) -> Selected
-    ensures { λ r. ⌜ r ≡ selectOf (now (flash .entry)) header ⌝ }
+pub fn select(flash: &[u8], offset: u32) -> Selected
+    ensures { λ r. ⌜ r ≡ selectOf (now (flash .entry)) offset ⌝ }
 {
     if !is_flash_length(flash.len()) {
         return refused(BAD_FLASH);
     }
-    let Place::Inside(_) = FlashOffset(header).place(PRODUCT, flash.len()) else {
+    let Place::Inside(_) = FlashOffset(offset).place(PRODUCT, flash.len()) else {
         return refused(NO_HEADER);
     };
-    let start = header as usize;
+    let start = offset as usize;
     if !is_marked(flash, start, PRODUCT_MARK) {
         return refused(WRONG_MARK);
     }

@@ -6,7 +6,8 @@ use mathlib.Core.List.{List}
 use mathlib.Core.Bool.{true, false}
 use native.Mathlib.Omega.{arith}
 use Rattle.version.specs.declared.rank.Ranked.{Ranked}
-use Rattle.version.specs.Rank.{wellFormed, rankOf}
+use Rattle.version.specs.Text.{wellFormed}
+use Rattle.version.specs.Rank.{rankOf}
 use borrow.Table.Steps.{cases}
 
 module _ (field : List ℕ) {r : Ranked} (is : r ≡ rankOf field) where

@@ -3,7 +3,7 @@
 use Prim.Native.Nat.{ℕ, zero, suc, _+_, _-_, _≤_, _<_}
 use mathlib.Core.Path.{_≡_, refl, sym, ap, _∙_}
 use mathlib.Core.List.{List, [], _∷_, _++_, map}
-use mathlib.Core.Bool.{Bool, true, false, cond, _&&_, and-false, and-true}
+use mathlib.Core.Bool.{true, false, _&&_, and-false, and-true}
 use native.Mathlib.Nat.{zero-add, add-zero}
 use native.Mathlib.Omega.{arith}
 use native.Mathlib.Numerals.{add-one}
@@ -13,9 +13,9 @@ use lib.Seq.{sets, sets-eq, drop-drop, getD-drop}
 use borrow.Author.Tests.{le-leb, lt-leb, eq-eqb, ne-eqb, eqb-true, eqb-false, leb-true, ltb-true, ltb-false}
 use Rattle.version.specs.declared.decimal.Decimal.the-variants.{Written, Malformed}
 use Rattle.version.specs.declared.rank.Ranked.{Ranked}
-use Rattle.version.specs.Text.{text, padding, allZero, dot, firstPart, laterParts, parts, isDigit, allDigits, value, isNumber, allNumbers}
+use Rattle.version.specs.Text.{text, padding, allZero, dot, firstPart, laterParts, parts, isDigit, allDigits, value, isNumber, allNumbers, fieldLength, mostNumbers, wellFormed}
 use Rattle.version.specs.Decimal.{digitsOf, decimalAt}
-use Rattle.version.specs.Rank.{fieldLength, rankLength, wellFormed, filled, refused, rankIf, rankOf}
+use Rattle.version.specs.Rank.{rankLength, filled, refused, rankIf, rankOf}
 use borrow.Table.Steps.{cases}
 use Rattle.version.proofs.Digits.{digit-low}
 
@@ -67,7 +67,7 @@ digits-short (b ∷ bs) = cases (isDigit b) (λ e. simp e (omega (arith, digits-
 -- the rank of the bytes `l`, whose numbers go to `place` of the rank and to those after it
 abbrev found : (place : ℕ) (rank l : List ℕ) → Ranked
 found place rank l =
-    rankIf (allZero (padding l) && (leb (place + length (parts (text l))) rankLength && allNumbers (parts (text l)))) (sets rank place (map value (parts (text l))))
+    rankIf (allZero (padding l) && (leb (place + length (parts (text l))) mostNumbers && allNumbers (parts (text l)))) (sets rank place (map value (parts (text l))))
 
 zeros-left : (k n : ℕ) → drop {A = ℕ} k (replicate n 0) ≡ replicate (n - k) 0
 zeros-left zero n = let e : n - 0 ≡ n = omega arith in rw e
@@ -85,9 +85,9 @@ unfolding rankOf wellFormed
 found-none field h =
     let all = parts (text field) in
     let z : 0 + length all ≡ length all = omega arith in
-    cases (leb (length all) rankLength)
+    cases (leb (length all) mostNumbers)
     (λ e.
-    let few : length (map value all) ≤ rankLength = rw (length-map all value) (leb-true (length all) rankLength e) in
+    let few : length (map value all) ≤ rankLength = rw (length-map all value) (leb-true (length all) mostNumbers e) in
     simp (eq-eqb (length field) fieldLength h, z, e) (ap (rankIf (allZero (padding field) && allNumbers all)) (over-zeros (map value all) few)))
     (λ e. simp (eq-eqb (length field) fieldLength h, z, e, and-false))
 
@@ -95,9 +95,9 @@ module _ (field : List ℕ) (at place : ℕ) (rank : List ℕ) where
   abbrev here : List ℕ
   here = drop at field
 
-  found-five : rankLength ≤ place → found place rank here ≡ refused
-  found-five h =
-      let k : leb (place + length (parts (text here))) rankLength ≡ false = lt-leb (place + length (parts (text here))) rankLength (omega arith) in
+  found-full : mostNumbers ≤ place → found place rank here ≡ refused
+  found-full h =
+      let k : leb (place + length (parts (text here))) mostNumbers ≡ false = lt-leb (place + length (parts (text here))) mostNumbers (omega arith) in
       simp (k, and-false)
 
   no-number : decimalAt field at ≡ Malformed → isNumber (digitsOf here) ≡ false
@@ -150,12 +150,12 @@ module _ (field : List ℕ) (at place : ℕ) (rank : List ℕ) where
             simp (next, f, l, p, yes, k, value-is) (rw (add-one place))
         go (at-other f z n) = absurd (let z : _≡_ {A = ℕ} 0 1 = cc head-is in omega arith)
 
-    found-ended : place < rankLength → eqb (getD field end 0) dot ≡ false → found place rank here ≡ rankIf (allZero (drop end field)) (set rank place v)
+    found-ended : place < mostNumbers → eqb (getD field end 0) dot ≡ false → found place rank here ≡ rankIf (allZero (drop end field)) (set rank place v)
     found-ended h d = go (after here)
       where
         go : After here → found place rank here ≡ rankIf (allZero (drop end field)) (set rank place v)
         go (at-end f l p n) =
-            let k : leb (place + 1) rankLength ≡ true = le-leb (place + 1) rankLength (omega arith) in
+            let k : leb (place + 1) mostNumbers ≡ true = le-leb (place + 1) mostNumbers (omega arith) in
             simp (f, l, p, yes, k, value-is, rest-is, and-true)
         go (at-dot t r f l p) = absurd (let n : getD field end 0 ≡ dot = sym head-is ∙ ap (λ (x : List ℕ). getD x 0 0) r in eqb-false (getD field end 0) dot d n)
         go (at-other f z n) = simp (sym rest-is, z, not-number (firstPart (text here)) f, and-false)
@@ -169,8 +169,8 @@ pub record Ranking (field rank : List ℕ) (at place : ℕ) : Type 0 where
 pub ranking-none : (field : List ℕ) → length field ≡ fieldLength → Ranking field (replicate rankLength 0) 0 0
 ranking-none field h = record { inside = omega arith; whole = refl; left = found-none field h }
 
-pub ranking-five : (field rank : List ℕ) (at place : ℕ) → Ranking field rank at place → rankLength ≤ place → rankOf field ≡ refused
-ranking-five field rank at place r h = sym (r .left) ∙ found-five field at place rank h
+pub ranking-full : (field rank : List ℕ) (at place : ℕ) → Ranking field rank at place → mostNumbers ≤ place → rankOf field ≡ refused
+ranking-full field rank at place r h = sym (r .left) ∙ found-full field at place rank h
 
 pub ranking-malformed : (field rank : List ℕ) (at place : ℕ) → Ranking field rank at place → decimalAt field at ≡ Malformed → rankOf field ≡ refused
 ranking-malformed field rank at place r e = sym (r .left) ∙ found-malformed field at place rank e
@@ -194,5 +194,5 @@ module _ (field rank : List ℕ) (at place v end : ℕ) (r : Ranking field rank 
         left = sym (found-dotted field at place rank v end e d) ∙ r .left;
       }
 
-  pub ranking-ended : place < rankLength → eqb (getD field end 0) dot ≡ false → rankOf field ≡ rankIf (allZero (drop end field)) (set rank place v)
+  pub ranking-ended : place < mostNumbers → eqb (getD field end 0) dot ≡ false → rankOf field ≡ rankIf (allZero (drop end field)) (set rank place v)
   ranking-ended h d = sym (r .left) ∙ found-ended field at place rank v end e h d

@@ -8,7 +8,8 @@ use lib.IntN.{pos, negsuc}
 use Rattle.version.specs.declared.order.Comparison.{Comparison}
 use Rattle.version.specs.declared.order.Comparison.the-variants.{Lower, Same, Higher, Malformed}
 use Rattle.version.specs.declared.order.Ordered.{Ordered}
-use Rattle.version.specs.Rank.{wellFormed, rankOf, malformed}
+use Rattle.version.specs.Text.{wellFormed}
+use Rattle.version.specs.Rank.{rankOf, malformedText}
 
 -- two ranks, number by number: the first place at which they differ decides
 abbrev pub compared : List ℕ → List ℕ → Comparison
@@ -25,7 +26,7 @@ abbrev pub ordered : Comparison → Ordered
 ordered Lower = record { number = 0; order = negsuc 0 }
 ordered Same = record { number = 0; order = pos 0 }
 ordered Higher = record { number = 0; order = pos 1 }
-ordered Malformed = record { number = malformed; order = pos 0 }
+ordered Malformed = record { number = malformedText; order = pos 0 }
 
 -- the order of two fields
 unfoldable pub orderOf : List ℕ → List ℕ → Ordered

@@ -1,40 +1,26 @@
--- The rank of a version field (01, "Version text" and "Numbers given back").
+-- The rank of a version field (01, "Version text": four numbers, missing ones 0; "Numbers given back": versions).
 -- Assumes nothing.
 use Prim.Native.Nat.{ℕ, _-_}
-use mathlib.Core.List.{List, [], _++_, map}
-use mathlib.Core.Bool.{Bool, cond, _&&_}
-use lib.Dec.{eqb, leb}
+use mathlib.Core.List.{List, _++_, map}
+use mathlib.Core.Bool.{Bool, cond}
 use lib.ListN.{length, replicate}
 use Rattle.version.specs.declared.rank.Ranked.{Ranked}
-use Rattle.version.specs.Text.{text, padding, parts, allZero, allNumbers, value}
-
--- how many bytes a field has
-abbrev pub fieldLength : ℕ
-fieldLength = 16
+use Rattle.version.specs.Text.{text, parts, value, mostNumbers, wellFormed}
 
 -- how many numbers a rank has
 abbrev pub rankLength : ℕ
-rankLength = 4
-
--- malformed text, or a field that isn't 16 bytes long
-abbrev pub malformed : ℕ
-malformed = 61
-
--- one to four numbers, then only 00 to byte 16
-unfoldable pub wellFormed : List ℕ → Bool
-wellFormed field =
-    eqb (length field) fieldLength
-    && (allZero (padding field)
-    && (leb (length (parts (text field))) rankLength
-    && allNumbers (parts (text field))))
+rankLength = mostNumbers
 
 -- missing numbers are 0
 abbrev pub filled : List ℕ → List ℕ
 filled numbers = numbers ++ replicate (rankLength - length numbers) 0
 
--- 61 and zeros
+-- the number given for malformed text, or a field that isn't 16 bytes long
+abbrev pub malformedText : ℕ
+malformedText = 61
+
 abbrev pub refused : Ranked
-refused = record { number = malformed; rank = filled [] }
+refused = record { number = malformedText; rank = replicate rankLength 0 }
 
 -- a rank where a test holds
 abbrev pub rankIf : Bool → List ℕ → Ranked

@@ -1,9 +1,11 @@
--- Version text (01, "Version text"): decimal numbers 0 to 65,535, dots between, no leading zero (a lone 0 is good), then only 00.
+-- Version text (01, "Version text"): one to four decimal numbers 0 to 65,535, dots between, no leading zero (a lone 0 is good), then
+-- only 00 to byte 16.
 -- Assumes nothing.
 use Prim.Native.Nat.{ℕ, _+_, _*_, _-_}
 use mathlib.Core.List.{List, [], _∷_}
 use mathlib.Core.Bool.{Bool, true, false, cond, not, _&&_}
 use lib.Dec.{eqb, leb}
+use lib.ListN.{length}
 
 -- the text of a field: its bytes before the first 00
 abbrev pub text : List ℕ → List ℕ
@@ -44,12 +46,12 @@ abbrev pub allDigits : List ℕ → Bool
 allDigits [] = true
 allDigits (b ∷ bs) = isDigit b && allDigits bs
 
--- the decimal number that digits go on with after v
+-- the value of digits that follow others, whose value is v
 abbrev pub valueFrom : ℕ → List ℕ → ℕ
 valueFrom v [] = v
 valueFrom v (b ∷ bs) = valueFrom (v * 10 + (b - 0x30)) bs
 
--- the decimal number that digits write
+-- the decimal number that a part writes
 abbrev pub value : List ℕ → ℕ
 value part = valueFrom 0 part
 
@@ -72,3 +74,19 @@ isNumber part = not (isEmpty part) && (allDigits part && (not (leadingZero part)
 abbrev pub allNumbers : List (List ℕ) → Bool
 allNumbers [] = true
 allNumbers (p ∷ ps) = isNumber p && allNumbers ps
+
+-- how many bytes a field has
+abbrev pub fieldLength : ℕ
+fieldLength = 16
+
+-- how many numbers a text has at most
+abbrev pub mostNumbers : ℕ
+mostNumbers = 4
+
+-- a field of 16 bytes, with at most four parts, each a number, and only 00 behind them
+unfoldable pub wellFormed : List ℕ → Bool
+wellFormed field =
+    eqb (length field) fieldLength
+    && (allZero (padding field)
+    && (leb (length (parts (text field))) mostNumbers
+    && allNumbers (parts (text field))))

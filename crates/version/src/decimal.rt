@@ -24,13 +24,13 @@ fn is_digit(byte: u8) -> bool
 }
 
 // Whether the digits from `start` to `at`, with their value, are a zero in front of more.
-fn is_zero(start: usize, at: usize, value: u32) -> bool
+fn is_leading_zero(start: usize, at: usize, value: u32) -> bool
     ensures { λ r. ⌜ r ≡ (ltb start at && eqb value 0) ⌝ }
 {
     if start < at { value == 0 } else { false }
 }
 
-// The number whose digits from `start` on end before `end`.
+// The number whose digits from `start` on end before `end`; malformed where there is none.
 fn written(start: usize, end: usize, value: u32) -> Decimal
     ensures { λ r. ⌜ r ≡ cond (eqb end start) Decimal.Malformed (Decimal.Written value end) ⌝ }
 {
@@ -52,7 +52,7 @@ pub fn decimal_at(field: &[u8], start: usize) -> Decimal
         if !is_digit(byte) {
             return written(start, at, value);
         }
-        if is_zero(start, at, value) {
+        if is_leading_zero(start, at, value) {
             return Decimal::Malformed;
         }
         value = value * 10 + (byte - b'0') as u32;

@@ -11,7 +11,7 @@ use crate::decimal::decimal_at;
 // How many bytes a version field has.
 const FIELD: usize = 16;
 
-// How many numbers a rank has.
+// How many numbers a text has at most, and a rank always.
 const NUMBERS: usize = 4;
 
 // The number given for malformed text, or a field of another length.

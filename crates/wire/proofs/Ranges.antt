@@ -6,6 +6,7 @@ use mathlib.Core.Bool.{Bool, true, false, _&&_, cond}
 use native.Mathlib.Omega.{arith}
 use lib.Dec.{leb}
 use borrow.Author.Tests.{le-leb, lt-leb, leb-true}
+use borrow.Table.Steps.{cases}
 use Rattle.wire.specs.declared.range.Place.the-variants.{Inside, Outside}
 use Rattle.wire.specs.Range.{liesIn, placeIn}
 
@@ -38,6 +39,21 @@ module _ (start count base length : ℕ) where
       go true true e f q = (leb-true base start e, leb-true (start + count) (base + length) f, cc)
       go true false e f q = absurd (let z : _≡_ {A = ℕ} 0 1 = cc in omega arith)
       go false b e f q = absurd (let z : _≡_ {A = ℕ} 0 1 = cc in omega arith)
+
+  -- and what it says of the range alone
+  pub lies-inside : (place : ℕ) → placeIn start count base length ≡ Inside place → liesIn start count base length ≡ true
+  unfolding placeIn
+  lies-inside place e =
+      cases (liesIn start count base length)
+      (λ t. t)
+      (λ t. absurd (let q : Outside ≡ Inside place = simp t at e in let z : _≡_ {A = ℕ} 0 1 = cc in omega arith))
+
+  pub lies-outside : placeIn start count base length ≡ Outside → liesIn start count base length ≡ false
+  unfolding placeIn
+  lies-outside e =
+      cases (liesIn start count base length)
+      (λ t. absurd (let q : Inside (start - base) ≡ Outside = simp t at e in let z : _≡_ {A = ℕ} 0 1 = cc in omega arith))
+      (λ t. t)
 
 -- a refusal in a memory that begins at 0
 pub range-over : (start count length : ℕ) → placeIn start count 0 length ≡ Outside → leb (start + count) length ≡ false

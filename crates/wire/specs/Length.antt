@@ -1,4 +1,4 @@
--- The lengths that memories may have (01, "Memories and the record").
+-- The lengths that flash may have (01, "Memories and the record").
 -- Assumes nothing.
 use Prim.Native.Nat.{ℕ, _%_}
 use mathlib.Core.Bool.{Bool, _&&_}
@@ -11,10 +11,10 @@ sectorLength = 4096
 abbrev pub largestFlash : ℕ
 largestFlash = 4194304
 
+-- a non-zero multiple of 4,096, at most 4,194,304
+unfoldable pub isFlashLength : ℕ → Bool
+isFlashLength length = leb 1 length && (eqb (length % sectorLength) 0 && leb length largestFlash)
+
 -- the number given for flash of any other length
 abbrev pub badFlash : ℕ
 badFlash = 3
-
--- flash: a non-zero multiple of 4,096, at most 4,194,304
-unfoldable pub isFlashLength : ℕ → Bool
-isFlashLength length = leb 1 length && (eqb (length % sectorLength) 0 && leb length largestFlash)

@@ -1,4 +1,4 @@
-// The lengths that memories may have.
+// The lengths that flash may have.
 ghost use mathlib.Core.Path.{_≡_};
 ghost use Rattle.wire.specs.Length.{isFlashLength};
 
@@ -7,10 +7,10 @@ pub const SECTOR: usize = 4_096;
 
 const LARGEST_FLASH: usize = 4_194_304;
 
-// The number given for flash of any other length.
+// The number given for flash of a length that it may not have.
 pub const BAD_FLASH: u32 = 3;
 
-// Whether a flash may have this length.
+// Whether flash may have this length.
 pub fn is_flash_length(length: usize) -> bool
     ensures { λ r. ⌜ r ≡ isFlashLength length ⌝ }
 {

@@ -1,12 +1,10 @@
 -- `offer::judge`: by the two images, then by their versions.
 -- Assumes nothing.
-use Prim.Native.Nat.{_≤_}
 use mathlib.Core.Path.{_≡_, sym, ap₂, _∙_}
 use native.Mathlib.Omega.{arith}
-use lib.ListN.{length}
 use Rattle.version.specs.Order.{comparedFields}
 use Rattle.image.specs.declared.Image.the-variants.{Valid}
-use Rattle.image.specs.Header.{versionAt, headerLength}
+use Rattle.image.specs.Header.{versionAt}
 use Rattle.image.specs.Valid.{imageAt}
 use Rattle.image.proofs.Images.{found-inside}
 use Rattle.offer.specs.Offer.{offerOf}

@@ -1,25 +1,27 @@
 -- `offer::offer`: the part that the offer names, of the file that it names.
 -- Assumes nothing.
-use Prim.Native.Nat.{ℕ, _+_, _-_}
-use mathlib.Core.Path.{_≡_, ap, _∙_}
+use Prim.Native.Nat.{_+_, _-_, _≤_}
+use mathlib.Core.Path.{refl}
 use native.Mathlib.Omega.{arith}
-use lib.ListN.{take, drop}
+use lib.ListN.{length}
 use borrow.Author.Needs.{needs}
-use Rattle.offer.specs.declared.Offered.{Offered}
-use Rattle.offer.specs.Offer.{offerCode}
-use Rattle.offer.proofs.Parts.{Names, candidate-part, installed-part}
+use borrow.Author.Tests.{eq-eqb, ne-eqb}
+use Rattle.wire.proofs.Parts.{part-taken}
+use Rattle.offer.proofs.Parts.{offer-names}
 use Rattle.offer.proofs.offer.Statement.{statement}
 use Rattle.offer.proofs.offer.Tie as tie
 
 judge-requires : tie.Need-judge-requires
 judge-requires c κs = search needs
 
--- the part is the candidate's code
-candidate : (c : tie.Then1) → Names (c .before .before .judge .result) (c .before .before .before .before .before .args .candidate .now) (offerCode (c .before .before .before .before .before .args .installed .now) (c .before .before .before .before .before .args .candidate .now))
-candidate c = candidate-part _ _ (c .before .before .judge .ensures) (c .if1 .taken)
+-- the part lies in the candidate
+candidate : (c : tie.Then1) → c .before .before .judge .result .place + c .before .before .judge .result .size ≤ length (c .before .before .before .before .before .args .candidate .now)
+candidate c =
+    let a = c .before .before .before .before .before .args in
+    simp (eq-eqb _ _ (c .if1 .taken)) at (rw (← c .before .before .judge .ensures) at (offer-names (a .installed .now) (a .candidate .now) .inside))
 
 add-result : tie.Need-add-result
-add-result c = omega (arith, candidate c .inside)
+add-result c = omega (arith, candidate c)
 
 sub-result : tie.Need-sub-result
 sub-result c = search needs
@@ -28,20 +30,23 @@ part-result-start : tie.Need-part-result-start
 part-result-start c = search needs
 
 part-result-end : tie.Need-part-result-end
-part-result-end c = omega (arith, candidate c .inside)
+part-result-end c = omega (arith, candidate c)
 
 returns : tie.Need-returns
 returns c =
     let o = c .before .before .before .judge .result in
-    let e : o .place + o .size - o .place ≡ o .size = omega arith in
-    (rw e (candidate (c .before) .part), ap (λ (x : Offered). x .number) (c .before .before .before .judge .ensures))
+    let a = c .before .before .before .before .before .before .args in
+    rw (← c .before .before .before .judge .ensures)
+    (simp (eq-eqb _ _ (c .before .if1 .taken)) (part-taken (a .candidate) (o .place) (o .size) (c .result .given .0), refl))
 
--- the part is the installed file's code, or empty
-installed : (c : tie.Else1) → Names (c .before .before .judge .result) (c .before .before .before .before .before .args .installed .now) (offerCode (c .before .before .before .before .before .args .installed .now) (c .before .before .before .before .before .args .candidate .now))
-installed c = installed-part _ _ (c .before .before .judge .ensures) (c .if1 .left)
+-- the part lies in the installed file
+installed : (c : tie.Else1) → c .before .before .judge .result .place + c .before .before .judge .result .size ≤ length (c .before .before .before .before .before .args .installed .now)
+installed c =
+    let a = c .before .before .before .before .before .args in
+    simp (ne-eqb _ _ (c .if1 .left)) at (rw (← c .before .before .judge .ensures) at (offer-names (a .installed .now) (a .candidate .now) .inside))
 
 add-result-2 : tie.Need-add-result-2
-add-result-2 c = omega (arith, installed c .inside)
+add-result-2 c = omega (arith, installed c)
 
 sub-result-2 : tie.Need-sub-result-2
 sub-result-2 c = search needs
@@ -50,13 +55,14 @@ part-result-start-2 : tie.Need-part-result-start-2
 part-result-start-2 c = search needs
 
 part-result-end-2 : tie.Need-part-result-end-2
-part-result-end-2 c = omega (arith, installed c .inside)
+part-result-end-2 c = omega (arith, installed c)
 
 returns-2 : tie.Need-returns-2
 returns-2 c =
     let o = c .before .before .before .judge .result in
-    let e : o .place + o .size - o .place ≡ o .size = omega arith in
-    (rw e (installed (c .before) .part), ap (λ (x : Offered). x .number) (c .before .before .before .judge .ensures))
+    let a = c .before .before .before .before .before .before .args in
+    rw (← c .before .before .before .judge .ensures)
+    (simp (ne-eqb _ _ (c .before .if1 .left)) (part-taken (a .installed) (o .place) (o .size) (c .result2 .given .0), refl))
 
 pub offer-spec : {M : Type 1} → statement M
 offer-spec =

@@ -1,7 +1,7 @@
--- `sheet::code_of` meets its contract: a walk of its MIR, by hand. A `Sheet` that `sheet_of` returns is held in a local and passed to `code`. All that the proof knows of the two is that each meets its contract.
--- The machine value that `sheet_of` returns is stored and passed on as it is. In a local of a body MIR erases the lifetime of the struct's type, so the value is shown to have the type at `erased`: what the struct owns does not say the lifetime's name.
+-- `sheet::code_of`, step by step: the sheet that `sheet_of` returns is held in a local and passed to `code`. A local's type has no
+-- named lifetime, so the value is shown to have the type at `erased`: what a sheet owns does not say the lifetime's name.
 -- Assumes nothing.
-use mathlib.Core.Path.{_≡_, refl, ap, _∙_}
+use mathlib.Core.Path.{_≡_, refl, subst}
 use Prim.Native.Nat.{ℕ}
 use mathlib.Core.List.{List, [], _∷_}
 use lib.ListN.{length}
@@ -36,7 +36,7 @@ use denote.Triple.Table.{entered, cited}
 use denote.Triple.Walked.{says, Stays, stay-none-slice, walkOf, goes-none-slice, Walks, ends-at, walked, walk-meets}
 use denote.Exit.{yes}
 use denote.Triple.Clauses.{ensured, lasts}
-use Rattle.sheet.specs.Sheet.{codePlace, codePart}
+use Rattle.sheet.specs.Sheet.{codePlace, Shows}
 use Rattle.sheet.specs.declared.Sheet.{Sheet}
 use Rattle.sheet.proofs.Sheet as T
 use Rattle.sheet.proofs.Sheet.Laws as T′
@@ -73,8 +73,8 @@ module _ {M : Type 1} (𝓤 : URA M) (H : Heap 𝓤) (A : Atoms 𝓤) (W : Given
   abbrev v : Val
   v = sliceVal (s .ptr) (length (s .now))
 
-  abbrev found : List ℕ
-  found = codePart (now s) (codePlace (now s))
+  abbrev Right : RefT (List ℕ) → Type 0
+  Right t = Shows s (codePlace (now s)) t
 
   -- the result's type
   abbrev R : RattleType
@@ -114,12 +114,12 @@ module _ {M : Type 1} (𝓤 : URA M) (H : Heap 𝓤) (A : Atoms 𝓤) (W : Given
   goes-code r u = qed W (‵ (B (κ, tt) .own r (u ∷ [])) ∷ (‵ (flft κ q) ⊛ ‵ ftrue) ∷ []) ∵ nothing ! $ move ! (1 ∷ 0 ∷ []) $ fjoin ! $ move ! (1 ∷ 0 ∷ []) $ join ! $ frame ! $ done !
 
   abbrev Part : Sheet → RefT (List ℕ) → Type 0
-  Part r t = now t ≡ codePart (now (r .file)) (r .place)
+  Part r t = Shows (r .file) (r .place) t
 
   code-said : (r : Sheet) (t : RefT (List ℕ)) → ent 𝓤 (ensured 𝓤 H A shown.ended (shown.clauses 𝓤 H A mem run) (κ, tt) (r, tt) tt t) (fact 𝓤 (Part r t))
   code-said r t = exE 𝓤 _ (λ ws. snd∗ 𝓤 (sem 𝓤 H A (lasts shown.ended (κ, tt) (r, tt) ws)) (fact 𝓤 (Part r t)))
 
-  exits : (t : RefT (List ℕ)) (u : Val) → now t ≡ found → ent 𝓤 (⋆ 𝓤 H A (‵ (R .own t (u ∷ [])) ∷ (‵ (flft κ q) ⊛ ‵ ftrue) ∷ ‵ Own ∷ [])) (Post u)
+  exits : (t : RefT (List ℕ)) (u : Val) → Right t → ent 𝓤 (⋆ 𝓤 H A (‵ (R .own t (u ∷ [])) ∷ (‵ (flft κ q) ⊛ ‵ ftrue) ∷ ‵ Own ∷ [])) (Post u)
   exits t u e =
       qed W (‵ (R .own t (u ∷ [])) ∷ (‵ (flft κ q) ⊛ ‵ ftrue) ∷ ‵ Own ∷ []) ∵
       suffices ! _ (ends-at 𝓤 H A fn.ended stayed (fn.clauses 𝓤 H A mem run) W (((κ, tt), (q, tt), tt, (s, tt), (v ∷ [], tt)), tt) u t (tt, tt) (tt, tt)) $ says ! e $
@@ -145,7 +145,7 @@ module _ {M : Type 1} (𝓤 : URA M) (H : Heap 𝓤) (A : Atoms 𝓤) (W : Given
         peeks ! R (Is R) (shows 𝓤 H A R) t (u′ ∷ []) (λ is′.
         land ! (from ! (stop !)) (init ! 7 refl (shr-slice-lawful 𝓤 H A W (named 0) κ u8 .typed t _ is′ .0)) $
         returns ! (look ! 7 refl) $ forget ! 3 refl $ forget ! 5 refl $ forget ! 7 refl $ move ! (7 ∷ 8 ∷ []) $ free1 ! $ move ! (5 ∷ 6 ∷ []) $ free1 ! $ move ! (3 ∷ 4 ∷ []) $ free1 ! $ free0 ! $
-        by ! (exits t u′ (e′ ∙ (ap (λ (x : RefT (List ℕ)). codePart (now x) (r .place)) (e .0) ∙ ap (codePart (now s)) (e .1)))))))))))))))
+        by ! (exits t u′ (subst (λ (x : RefT (List ℕ)). Shows x (codePlace (now s)) t) (e .0) (subst (λ (k : ℕ). Shows (r .file) k t) (e .1) e′))))))))))))))
 
 module _ {M : Type 1} (𝓤 : URA M) (H : Heap 𝓤) (A : Atoms 𝓤) (W : Given 𝓤 H A) (mem : Memory → SProp 𝓤) (run : Routine → Fun 𝓤) where
   code-of-walks : (C : Calls 𝓤 H) (Λ : Loops 𝓤 H) → FmC 𝓤 H (W .laws) C → Triple 𝓤 (C #sheet·sheet-of) (SheetOf 𝓤 H A mem run) → Triple 𝓤 (C #sheet·code) (Shown 𝓤 H A mem run)

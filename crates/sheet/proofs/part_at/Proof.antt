@@ -1,14 +1,15 @@
 -- `sheet::part_at`: by whether the code's bytes lie in the file from the place on.
 -- Assumes nothing.
 use Prim.Native.Nat.{_+_, _-_, _≤_}
-use mathlib.Core.Path.{_≡_, sym, ap, _∙_}
+use mathlib.Core.Path.{_≡_, sym, _∙_}
+use mathlib.Core.Bool.{true}
 use native.Mathlib.Omega.{arith}
 use lib.ListN.{length}
 use borrow.Author.Needs.{needs}
-use borrow.Author.Tests.{le-leb}
-use Rattle.wire.proofs.Ranges.{range-known, range-over}
-use Rattle.sheet.specs.declared.Placed.{Placed}
-use Rattle.sheet.specs.Sheet.{codePart}
+use Rattle.wire.specs.Range.{liesIn}
+use Rattle.wire.proofs.Parts.{part-taken}
+use Rattle.wire.proofs.Ranges.{range-known, lies-inside, lies-outside}
+use Rattle.sheet.specs.Sheet.{liesFrom}
 use Rattle.sheet.proofs.part_at.Statement.{statement}
 use Rattle.sheet.proofs.part_at.Tie as tie
 
@@ -34,12 +35,12 @@ part-result-end : tie.Need-part-result-end
 part-result-end c = search needs
 
 returns : tie.Need-returns
-unfolding codePart
+unfolding liesFrom
 returns c =
     let found = c .before .before .before in
     let a = found .before .before .before .args in
-    let over = range-over (a .place) (found .before .place-of .result .size) (length (a .file .now)) (sym (found .place-in .ensures) ∙ c .before .enum-told2 .given .1) in
-    simp (rw (found .before .place-of .ensures) at over)
+    let over = lies-outside (a .place) (found .before .place-of .result .size) 0 (length (a .file .now)) (sym (found .place-in .ensures) ∙ c .before .enum-told2 .given .1) in
+    simp (rw (found .before .place-of .ensures) at over) (part-taken (a .file) 0 0 (c .result .given .0))
 
 -- the bytes lie in the file
 inside : (c : tie.After-enum-told) → c .before .before .before .before .before .args .place + c .before .before .before .place-of .result .size ≤ length (c .before .before .before .before .before .args .file .now)
@@ -48,6 +49,12 @@ inside c =
     let a = found .before .before .before .args in
     let known = range-known (a .place) (found .before .place-of .result .size) 0 (length (a .file .now)) (c .enum-told .given .0 .0) (sym (found .place-in .ensures) ∙ c .enum-told .given .1) in
     omega (arith, known .1)
+
+lies : (c : tie.After-enum-told) → liesIn (c .before .before .before .before .before .args .place) (c .before .before .before .place-of .result .size) 0 (length (c .before .before .before .before .before .args .file .now)) ≡ true
+lies c =
+    let found = c .before .before in
+    let a = found .before .before .before .args in
+    lies-inside (a .place) (found .before .place-of .result .size) 0 (length (a .file .now)) (c .enum-told .given .0 .0) (sym (found .place-in .ensures) ∙ c .enum-told .given .1)
 
 add-result : tie.Need-add-result
 add-result c = omega (arith, inside c)
@@ -62,13 +69,12 @@ part-result-end-2 : tie.Need-part-result-end-2
 part-result-end-2 c = omega (arith, inside c)
 
 returns-2 : tie.Need-returns-2
-unfolding codePart
+unfolding liesFrom
 returns-2 c =
     let placed = c .before .before .before .before in
     let a = placed .before .before .args in
     let size = placed .place-of .result .size in
-    let e : a .place + size - a .place ≡ size = omega arith in
-    rw (e, ← placed .place-of .ensures) (simp (le-leb (a .place + size) (length (a .file .now)) (inside (c .before))))
+    rw (← placed .place-of .ensures) (simp (lies (c .before)) (part-taken (a .file) (a .place) size (c .result2 .given .0)))
 
 pub part-at-spec : {M : Type 1} → statement M
 part-at-spec =

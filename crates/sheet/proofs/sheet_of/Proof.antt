@@ -1,5 +1,6 @@
--- `sheet::sheet_of` meets its contract: a walk of its MIR, by hand. `code_place` is called on the file, and a `Sheet` is made of the file and the number that it returns. All that the proof knows of `code_place` is that it meets its contract.
--- A `&[u8]` is Copy, so what it owns is had as often as it is asked for: once for the callee, once for file at exit, and once inside the result, beside the facts of place.
+-- `sheet::sheet_of`, step by step: `code_place` is called on the file, and a sheet is made of the file and the number that it
+-- returns. A `&[u8]` is Copy, so what it owns is had as often as it is asked for: for the callee, for the file at exit, and inside the
+-- result.
 -- Assumes nothing.
 use mathlib.Core.Path.{_≡_, refl, ap}
 use Prim.Native.Nat.{ℕ, _<_, _^_}

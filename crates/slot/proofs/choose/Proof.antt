@@ -10,8 +10,8 @@ enum-known-first c = search needs
 enum-known-second : tie.Need-enum-known-second
 enum-known-second c = search needs
 
-newer-requires : tie.Need-newer-requires
-newer-requires c κs = search needs
+slot-of-requires : tie.Need-slot-of-requires
+slot-of-requires c κs = search needs
 
 enum-told : tie.Need-enum-told
 enum-told c = search needs
@@ -35,7 +35,7 @@ refused-requires : tie.Need-refused-requires
 refused-requires c κs = search needs
 
 returns : tie.Need-returns
-returns c = simp (c .newer .ensures, c .before .before .second .given .1, c .before .before .before .before .before .first .given .1)
+returns c = simp (c .slot-of .ensures, c .before .before .second .given .1, c .before .before .before .before .before .first .given .1)
 
 returns-2 : tie.Need-returns-2
 returns-2 c = simp (c .starts .ensures, c .before .enum-told .given .1, c .before .before .before .before .first .given .1)
@@ -52,7 +52,7 @@ choose-spec =
     (tie.spec
     enum-known-first
     enum-known-second
-    newer-requires
+    slot-of-requires
     enum-told
     starts-requires
     enum-told-2

@@ -1,22 +1,30 @@
 -- `slot::select`: each refusal by the test that led there, else by the two images that the product header names.
 -- Assumes nothing.
 use Prim.Native.Nat.{_+_, _≤_}
-use mathlib.Core.Path.{sym, _∙_}
+use mathlib.Core.Path.{_≡_, sym, _∙_}
+use mathlib.Core.Bool.{true}
 use native.Mathlib.Omega.{arith}
 use lib.ListN.{length}
-use borrow.Author.Tests.{le-leb, not-true, not-false}
-use Rattle.wire.proofs.Ranges.{range-known, range-over}
+use borrow.Author.Tests.{not-true, not-false}
+use Rattle.wire.specs.Range.{liesIn}
+use Rattle.wire.proofs.Ranges.{range-known, lies-inside, lies-outside}
 use Rattle.slot.specs.Slot.{productLength, productInside, productMarked, selectOf}
 use borrow.Author.Needs.{needs}
 use Rattle.slot.proofs.select.Statement.{statement}
 use Rattle.slot.proofs.select.Tie as tie
 
 -- the product header lies in the flash
-inside : (c : tie.After-enum-told) → c .before .before .before .before .before .before .args .header + productLength ≤ length (c .before .before .before .before .before .before .args .flash .now)
+lies : (c : tie.After-enum-told) → liesIn (c .before .before .before .before .before .before .args .offset) productLength 0 (length (c .before .before .before .before .before .before .args .flash .now)) ≡ true
+lies c =
+    let found = c .before .before in
+    let a = found .before .before .before .before .args in
+    lies-inside (a .offset) productLength 0 (length (a .flash .now)) (c .enum-told .given .0 .0) (sym (found .place .ensures) ∙ c .enum-told .given .1)
+
+inside : (c : tie.After-enum-told) → c .before .before .before .before .before .before .args .offset + productLength ≤ length (c .before .before .before .before .before .before .args .flash .now)
 inside c =
     let found = c .before .before in
     let a = found .before .before .before .before .args in
-    let known = range-known (a .header) productLength 0 (length (a .flash .now)) (c .enum-told .given .0 .0) (sym (found .place .ensures) ∙ c .enum-told .given .1) in
+    let known = range-known (a .offset) productLength 0 (length (a .flash .now)) (c .enum-told .given .0 .0) (sym (found .place .ensures) ∙ c .enum-told .given .1) in
     omega (arith, known .1)
 
 is-flash-length-requires : tie.Need-is-flash-length-requires
@@ -47,7 +55,7 @@ returns-2 c =
     let found = c .before .before .before in
     let a = found .before .before .before .before .args in
     let sound = sym (found .before .before .is-flash-length .ensures) ∙ not-false _ (found .before .if1 .left) in
-    let over = range-over (a .header) productLength (length (a .flash .now)) (sym (found .place .ensures) ∙ c .before .enum-told2 .given .1) in
+    let over = lies-outside (a .offset) productLength 0 (length (a .flash .now)) (sym (found .place .ensures) ∙ c .before .enum-told2 .given .1) in
     simp (sound, over) (c .refused2 .ensures)
 
 is-marked-requires : tie.Need-is-marked-requires
@@ -62,7 +70,7 @@ returns-3 c =
     let found = c .before .before .before .before .before in
     let sound = sym (found .before .before .is-flash-length .ensures) ∙ not-false _ (found .before .if1 .left) in
     let unmarked = sym (c .before .before .is-marked .ensures) ∙ not-true _ (c .before .if2 .taken) in
-    simp (sound, le-leb _ _ (inside (c .before .before .before)), unmarked) (c .refused3 .ensures)
+    simp (sound, lies (c .before .before .before), unmarked) (c .refused3 .ensures)
 
 add-number32-at : tie.Need-add-number32-at
 add-number32-at c = search needs
@@ -98,7 +106,7 @@ returns-4 c =
     let found = marked .before .before .before .before in
     let sound = sym (found .before .before .is-flash-length .ensures) ∙ not-false _ (found .before .if1 .left) in
     let mark = sym (marked .before .is-marked .ensures) ∙ not-false _ (marked .if2 .left) in
-    simp (sound, le-leb _ _ (inside (marked .before .before)), mark)
+    simp (sound, lies (marked .before .before), mark)
     (c .choose .ensures ∙ rw (c .before .image-at2 .ensures, c .before .before .number32-at2 .ensures, c .before .before .before .image-at .ensures, c .before .before .before .before .number32-at .ensures))
 
 pub select-spec : {M : Type 1} → statement M

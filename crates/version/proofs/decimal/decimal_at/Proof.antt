@@ -37,8 +37,8 @@ returns c =
     let other = sym (c .before .before .is-digit .ensures) ∙ not-true _ (c .before .if1 .taken) in
     c .written .ensures ∙ sym (reading-other _ _ (loop .at) (loop .value) (loop .inv) (turn .loop-test .taken) other)
 
-is-zero-requires : tie.Need-is-zero-requires Inv-loop μ-loop
-is-zero-requires c κs = search needs
+is-leading-zero-requires : tie.Need-is-leading-zero-requires Inv-loop μ-loop
+is-leading-zero-requires c κs = search needs
 
 -- a digit stands where the loop is
 is : (c : tie.Else1 Inv-loop μ-loop) → isDigit (getD (c .before .before .before .before .before .before .args .field .now) (c .before .before .before .before .loop .at) 0) ≡ true
@@ -48,7 +48,7 @@ returns-2 : tie.Need-returns-2 Inv-loop μ-loop
 returns-2 c =
     let turn = c .before .before .before .before .before in
     let loop = turn .before .loop in
-    sym (reading-zero _ _ (loop .at) (loop .value) (loop .inv) (turn .loop-test .taken) (is (c .before .before)) (sym (c .before .is-zero .ensures) ∙ c .if2 .taken))
+    sym (reading-zero _ _ (loop .at) (loop .value) (loop .inv) (turn .loop-test .taken) (is (c .before .before)) (sym (c .before .is-leading-zero .ensures) ∙ c .if2 .taken))
 
 mul-value : tie.Need-mul-value Inv-loop μ-loop
 mul-value c = search needs
@@ -81,7 +81,7 @@ loop-again c =
     let turn = c .before .before .before .before .before .before in
     let loop = turn .before .loop in
     reading-more _ _ (loop .at) (loop .value) (loop .inv) (turn .loop-test .taken) (is (c .before .before .before))
-    (sym (c .before .before .is-zero .ensures) ∙ c .before .if2 .left) (c .if3 .left)
+    (sym (c .before .before .is-leading-zero .ensures) ∙ c .before .if2 .left) (c .if3 .left)
 
 written-requires-2 : tie.Need-written-requires-2 Inv-loop μ-loop
 written-requires-2 c κs = search needs
@@ -102,7 +102,7 @@ decimal-at-spec =
     is-digit-requires
     written-requires
     returns
-    is-zero-requires
+    is-leading-zero-requires
     returns-2
     mul-value
     sub-value

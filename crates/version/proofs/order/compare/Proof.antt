@@ -13,7 +13,7 @@ use borrow.Author.Needs.{needs}
 use borrow.Author.Tests.{le-ltb, lt-ltb}
 use Rattle.version.specs.Rank.{rankLength}
 use Rattle.version.specs.Order.{compared}
-use Rattle.version.specs.declared.order.Comparison.the-variants.{Lower, Same, Higher}
+use Rattle.version.specs.declared.order.Comparison.the-variants.{Lower, Higher}
 use Rattle.version.proofs.order.compare.Statement.{statement}
 use Rattle.version.proofs.order.compare.Tie as tie
 

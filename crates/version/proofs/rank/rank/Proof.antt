@@ -6,8 +6,9 @@ use native.Mathlib.Omega.{arith}
 use lib.ListN.{length}
 use borrow.Author.Needs.{needs}
 use borrow.Author.Tests.{ne-eqb}
-use Rattle.version.specs.Rank.{rankLength, wellFormed, rankOf}
-use Rattle.version.proofs.Parts.{Ranking, ranking-none, ranking-five, ranking-malformed, ranking-inside, ranking-dotted, ranking-ended}
+use Rattle.version.specs.Text.{mostNumbers, wellFormed}
+use Rattle.version.specs.Rank.{rankOf}
+use Rattle.version.proofs.Parts.{Ranking, ranking-none, ranking-full, ranking-malformed, ranking-inside, ranking-dotted, ranking-ended}
 use Rattle.version.proofs.rank.rank.Statement.{statement}
 use Rattle.version.proofs.rank.rank.Tie as tie
 
@@ -15,7 +16,7 @@ abbrev Inv-loop : tie.InvT-loop
 Inv-loop field rank₀ at₀ place₀ rank at place = Ranking field rank at place
 
 abbrev μ-loop : tie.MeasureT-loop
-μ-loop field rank₀ at₀ place₀ rank at place = rankLength - place
+μ-loop field rank₀ at₀ place₀ rank at place = mostNumbers - place
 
 refused-requires : tie.Need-refused-requires Inv-loop μ-loop
 refused-requires c κs = search needs
@@ -95,7 +96,7 @@ refused-requires-3 : tie.Need-refused-requires-3 Inv-loop μ-loop
 refused-requires-3 c κs = search needs
 
 returns-4 : tie.Need-returns-4 Inv-loop μ-loop
-returns-4 c = c .refused3 .ensures ∙ sym (ranking-five _ _ _ _ (c .before .before .loop .inv) (c .before .loop-test .left))
+returns-4 c = c .refused3 .ensures ∙ sym (ranking-full _ _ _ _ (c .before .before .loop .inv) (c .before .loop-test .left))
 
 pub rank-spec : {M : Type 1} → statement M
 rank-spec =

@@ -1,9 +1,9 @@
--- `slot::newer`: by which id is newer.
+-- `slot::slot_of`: by which id is newer.
 -- Assumes nothing.
 use mathlib.Core.Path.{sym, _∙_}
 use borrow.Author.Needs.{needs}
-use Rattle.slot.proofs.newer.Statement.{statement}
-use Rattle.slot.proofs.newer.Tie as tie
+use Rattle.slot.proofs.slot_of.Statement.{statement}
+use Rattle.slot.proofs.slot_of.Tie as tie
 
 is-newer-requires : tie.Need-is-newer-requires
 is-newer-requires c κs = search needs
@@ -20,6 +20,6 @@ returns c = simp (sym (c .before .before .is-newer .ensures) ∙ c .before .if1 
 returns-2 : tie.Need-returns-2
 returns-2 c = simp (sym (c .before .before .is-newer .ensures) ∙ c .before .if1 .left) (c .starts2 .ensures)
 
-pub newer-spec : {M : Type 1} → statement M
-newer-spec =
+pub slot-of-spec : {M : Type 1} → statement M
+slot-of-spec =
     tie.close (tie.spec is-newer-requires starts-requires starts-requires-2 returns returns-2)
