@@ -9,14 +9,16 @@ use version::order::Comparison;
 use version::order::compare_fields;
 use version::rank::MALFORMED;
 
-// The numbers given where the installed image, or the candidate, is not valid.
+// The number given where the installed image is not valid.
 pub const BAD_INSTALLED: u32 = 62;
 
+// The number given where the candidate is not valid.
 pub const BAD_CANDIDATE: u32 = 63;
 
-// The numbers that stand for the files.
+// The number that stands for the installed file.
 pub const INSTALLED: u32 = 1;
 
+// The number that stands for the candidate.
 pub const CANDIDATE: u32 = 2;
 
 // The number 0, the file that wins, and where its code lies there; or a refusal's number and zeros.

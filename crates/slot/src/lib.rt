@@ -12,16 +12,19 @@ use wire::number::number32_at;
 use wire::range::Place;
 use wire::unit::FlashOffset;
 
-// The product header's length, and the second byte of its mark.
+// How many bytes the product header has.
 const PRODUCT: usize = 12;
 
+// The mark of a product header is 70 and this byte.
 const PRODUCT_MARK: u8 = 0x52;
 
-// The numbers given where the product header does not lie in the flash, its mark is wrong, neither image is valid.
+// The number given where the product header does not lie wholly in the flash.
 pub const NO_HEADER: u32 = 51;
 
+// The number given where its mark is wrong.
 pub const WRONG_MARK: u32 = 52;
 
+// The number given where neither image is valid.
 pub const NO_IMAGE: u32 = 53;
 
 // The number 0 and slot 1 or 2, or a refusal's number and slot 0.
