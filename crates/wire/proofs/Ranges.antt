@@ -3,6 +3,7 @@
 use Prim.Native.Nat.{ℕ, _+_, _-_, _≤_, _<_}
 use mathlib.Core.Path.{_≡_, refl}
 use mathlib.Core.Bool.{Bool, true, false, _&&_, cond}
+use native.Mathlib.Nat.{zero-add}
 use native.Mathlib.Omega.{arith}
 use lib.Dec.{leb}
 use borrow.Author.Tests.{le-leb, lt-leb, leb-true}
@@ -54,6 +55,11 @@ module _ (start count base length : ℕ) where
       cases (liesIn start count base length)
       (λ t. absurd (let q : Inside (start - base) ≡ Outside = simp t at e in let z : _≡_ {A = ℕ} 0 1 = cc in omega arith))
       (λ t. t)
+
+-- a range in a memory that begins at 0
+pub lies-fits : (start count length : ℕ) → liesIn start count 0 length ≡ true → start + count ≤ length
+unfolding liesIn
+lies-fits start count length e = leb-true (start + count) length (simp (zero-add length, le-leb 0 start (omega arith)) at e)
 
 -- a refusal in a memory that begins at 0
 pub range-over : (start count length : ℕ) → placeIn start count 0 length ≡ Outside → leb (start + count) length ≡ false

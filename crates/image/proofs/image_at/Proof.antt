@@ -7,7 +7,7 @@ use native.Mathlib.Omega.{arith}
 use lib.ListN.{length}
 use borrow.Author.Needs.{needs}
 use borrow.Author.Tests.{lt-leb, leb-false}
-use Rattle.wire.proofs.Ranges.{range-known, range-over}
+use Rattle.wire.proofs.Ranges.{range-over, lies-inside, lies-fits}
 use Rattle.image.specs.Header.{sizeAt, headerLength}
 use Rattle.image.specs.Valid.{isValid, imageAt}
 use Rattle.image.proofs.image_at.Statement.{statement}
@@ -18,8 +18,7 @@ inside : (c : tie.After-enum-told) → c .before .before .before .before .args .
 inside c =
     let found = c .before .before in
     let a = found .before .before .args in
-    let known = range-known (a .offset) headerLength 0 (length (a .memory .now)) (c .enum-told .given .0 .0) (sym (found .place-in .ensures) ∙ c .enum-told .given .1) in
-    omega (arith, known .1)
+    lies-fits _ _ _ (lies-inside (a .offset) headerLength 0 (length (a .memory .now)) (c .enum-told .given .0 .0) (sym (found .place-in .ensures) ∙ c .enum-told .given .1))
 
 place-in-requires : tie.Need-place-in-requires
 place-in-requires c κs = search needs

@@ -8,7 +8,7 @@ use lib.ListN.{length}
 use borrow.Author.Needs.{needs}
 use Rattle.wire.specs.Range.{liesIn}
 use Rattle.wire.proofs.Parts.{part-taken}
-use Rattle.wire.proofs.Ranges.{range-known, lies-inside, lies-outside}
+use Rattle.wire.proofs.Ranges.{lies-inside, lies-outside, lies-fits}
 use Rattle.sheet.specs.Sheet.{liesFrom}
 use Rattle.sheet.proofs.part_at.Statement.{statement}
 use Rattle.sheet.proofs.part_at.Tie as tie
@@ -43,18 +43,14 @@ returns c =
     simp (rw (found .before .place-of .ensures) at over) (part-taken (a .file) 0 0 (c .result .given .0))
 
 -- the bytes lie in the file
-inside : (c : tie.After-enum-told) → c .before .before .before .before .before .args .place + c .before .before .before .place-of .result .size ≤ length (c .before .before .before .before .before .args .file .now)
-inside c =
-    let found = c .before .before in
-    let a = found .before .before .before .args in
-    let known = range-known (a .place) (found .before .place-of .result .size) 0 (length (a .file .now)) (c .enum-told .given .0 .0) (sym (found .place-in .ensures) ∙ c .enum-told .given .1) in
-    omega (arith, known .1)
-
 lies : (c : tie.After-enum-told) → liesIn (c .before .before .before .before .before .args .place) (c .before .before .before .place-of .result .size) 0 (length (c .before .before .before .before .before .args .file .now)) ≡ true
 lies c =
     let found = c .before .before in
     let a = found .before .before .before .args in
     lies-inside (a .place) (found .before .place-of .result .size) 0 (length (a .file .now)) (c .enum-told .given .0 .0) (sym (found .place-in .ensures) ∙ c .enum-told .given .1)
+
+inside : (c : tie.After-enum-told) → c .before .before .before .before .before .args .place + c .before .before .before .place-of .result .size ≤ length (c .before .before .before .before .before .args .file .now)
+inside c = lies-fits _ _ _ (lies c)
 
 add-result : tie.Need-add-result
 add-result c = omega (arith, inside c)

@@ -7,7 +7,7 @@ use native.Mathlib.Omega.{arith}
 use lib.ListN.{length}
 use borrow.Author.Tests.{not-true, not-false}
 use Rattle.wire.specs.Range.{liesIn}
-use Rattle.wire.proofs.Ranges.{range-known, lies-inside, lies-outside}
+use Rattle.wire.proofs.Ranges.{lies-inside, lies-outside, lies-fits}
 use Rattle.slot.specs.Slot.{productLength, productInside, productMarked, selectOf}
 use borrow.Author.Needs.{needs}
 use Rattle.slot.proofs.select.Statement.{statement}
@@ -21,11 +21,7 @@ lies c =
     lies-inside (a .offset) productLength 0 (length (a .flash .now)) (c .enum-told .given .0 .0) (sym (found .place .ensures) ∙ c .enum-told .given .1)
 
 inside : (c : tie.After-enum-told) → c .before .before .before .before .before .before .args .offset + productLength ≤ length (c .before .before .before .before .before .before .args .flash .now)
-inside c =
-    let found = c .before .before in
-    let a = found .before .before .before .before .args in
-    let known = range-known (a .offset) productLength 0 (length (a .flash .now)) (c .enum-told .given .0 .0) (sym (found .place .ensures) ∙ c .enum-told .given .1) in
-    omega (arith, known .1)
+inside c = lies-fits _ _ _ (lies c)
 
 is-flash-length-requires : tie.Need-is-flash-length-requires
 is-flash-length-requires c κs = search needs

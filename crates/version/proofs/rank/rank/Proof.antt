@@ -8,7 +8,7 @@ use borrow.Author.Needs.{needs}
 use borrow.Author.Tests.{ne-eqb}
 use Rattle.version.specs.Text.{mostNumbers, wellFormed}
 use Rattle.version.specs.Rank.{rankOf}
-use Rattle.version.proofs.Parts.{Ranking, ranking-none, ranking-full, ranking-malformed, ranking-inside, ranking-dotted, ranking-ended}
+use Rattle.version.proofs.Ranking.{Ranking, ranking-none, ranking-full, ranking-malformed, ranking-inside, ranking-dotted, ranking-ended}
 use Rattle.version.proofs.rank.rank.Statement.{statement}
 use Rattle.version.proofs.rank.rank.Tie as tie
 
