@@ -1,11 +1,11 @@
 -- What a sheet shows: of a valid file, at the place that its own sheet holds, the code; of any other file, nothing at any place.
 -- Assumes nothing.
 use Prim.Native.Nat.{ℕ, _+_, _≤_}
-use mathlib.Core.Path.{_≡_, refl, ap, _∙_}
+use mathlib.Core.Path.{_≡_, refl, ap}
 use mathlib.Core.List.{List, []}
 use mathlib.Core.Bool.{Bool, true, false, cond}
 use native.Mathlib.Omega.{arith}
-use lib.ListN.{length, take, drop}
+use lib.ListN.{length}
 use borrow.Author.Tests.{le-leb}
 use denote.Ref.{RefT, now}
 use Rattle.wire.specs.Range.{liesIn}
@@ -40,8 +40,8 @@ module _ (file part : RefT (List ℕ)) where
 
   pub sheet-shows-nothing : (place : ℕ) → isValid (now file) 0 ≡ false → Shows file place part → now part ≡ []
   unfolding placeOf imageAt
-  sheet-shows-nothing place invalid shows = shows .bytes ∙ none (liesFrom (now file) place)
+  sheet-shows-nothing place invalid shows = rw (none (liesFrom (now file) place)) at (shows .bytes)
     where
-      none : (t : Bool) → take (cond t (placeOf (now file) .size) 0) (drop (cond t place 0) (now file)) ≡ []
+      none : (t : Bool) → cond t (placeOf (now file) .size) 0 ≡ 0
       none true = simp invalid
       none false = refl
