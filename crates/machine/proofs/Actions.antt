@@ -1,0 +1,257 @@
+-- A call and the uncut definition, action by action.
+-- Assumes nothing.
+use Prim.Native.Nat.{ℕ, zero, suc, _+_, _-_, _≤_, _<_}
+use native.Mathlib.Omega.{arith}
+use mathlib.Core.Path.{_≡_, refl, sym, ap, _∙_}
+use mathlib.Core.Bool.{true, false, cond, _&&_, and-false}
+use mathlib.Core.List.{List, []}
+use lib.Dec.{leb}
+use lib.ListN.{length, take, drop, length-drop}
+use lib.Seq.{length-take-le}
+use borrow.Author.Tests.{leb-true, le-leb, lt-leb}
+use Rattle.machine.specs.Machine.{Need, acts, runs, Machine}
+use Rattle.machine.specs.Outcome.{Outcome, halt, acted, join}
+use Rattle.machine.specs.Call.{act, call}
+use Rattle.machine.specs.Uncut.{drainAt, drain, feed, uncut}
+use Rattle.machine.specs.Lawful.{Moves, takes-one, sends-one, stops, Lawful}
+use Rattle.machine.proofs.Outcomes.{join-assoc, halt-join, cond-same, both-true}
+
+module _ {A S : Type 0} (m : Machine A S) where
+  act-run : (k : ℕ) (s : S) (inp : List A) (room : ℕ) → act m k runs s inp room ≡ halt s
+  unfolding act
+  act-run zero s inp room = refl
+  act-run (suc k) s inp room = refl
+
+  pub call-run : (s : S) (inp : List A) (room : ℕ) → m .need s ≡ runs → call m s inp room ≡ halt s
+  unfolding call
+  call-run s inp room e = rw e (act-run (suc (length inp + room)) s inp room)
+
+  pub call-short : (s : S) (inp : List A) (room views takes : ℕ) → m .need s ≡ acts views takes → length inp < views → call m s inp room ≡ halt s
+  unfolding call act
+  call-short s inp room views takes e h = rw e (simp (lt-leb _ _ h))
+
+  pub call-full : (s : S) (inp : List A) (room views takes : ℕ) → m .need s ≡ acts views takes → room < length (m .says s (take views inp)) →
+      call m s inp room ≡ halt s
+  unfolding call act
+  call-full s inp room views takes e h = rw e (simp (lt-leb _ _ h, and-false))
+
+  pub drain-takes-none : (k : ℕ) (n : Need) (s : S) → drainAt m k n s .taken ≡ 0
+  drain-takes-none zero n s = refl
+  drain-takes-none (suc k) runs s = refl
+  drain-takes-none (suc k) (acts (suc views) takes) s = refl
+  drain-takes-none (suc k) (acts zero takes) s = simp (drain-takes-none k (m .need (m .after s [])) (m .after s []))
+
+  module _ {Good : A → Type 0} {Sound : S → Type 0} (law : Lawful m Good Sound) where
+    -- the actions that follow one with this view, where the fuel doesn't matter for fewer symbols and less room
+    Same : (k l : ℕ) → Type 0
+    Same k l = (s : S) (inp : List A) (room : ℕ) → length inp + room < k → length inp + room < l →
+        act m k (m .need s) s inp room ≡ act m l (m .need s) s inp room
+
+    fuel-later : (k l : ℕ) → Same k l → (s : S) (inp : List A) (room views takes : ℕ) → m .need s ≡ acts views takes →
+        (leb views (length inp) && leb (length (m .says s (take views inp))) room) ≡ true → length inp + room ≤ k → length inp + room ≤ l →
+        let next = m .after s (take views inp) in
+        let said = m .says s (take views inp) in
+        act m k (m .need next) next (drop takes inp) (room - length said) ≡ act m l (m .need next) next (drop takes inp) (room - length said)
+    unfolding Same
+    fuel-later k l same s inp room views takes e t h g =
+        moved (law .moves s view views takes e (length-take-le views inp shown))
+      where
+        view : List A
+        view = take views inp
+
+        shown : views ≤ length inp
+        shown = leb-true _ _ (both-true (leb views (length inp)) (leb (length (m .says s view)) room) t .0)
+
+        fits : length (m .says s view) ≤ room
+        fits = leb-true _ _ (both-true (leb views (length inp)) (leb (length (m .says s view)) room) t .1)
+
+        inside : takes ≤ views
+        inside = law .takes-in-view s views takes e
+
+        left : length (drop takes inp) ≡ length inp - takes
+        left = length-drop takes inp
+
+        moved : Moves m s view views takes →
+            act m k (m .need (m .after s view)) (m .after s view) (drop takes inp) (room - length (m .says s view))
+            ≡ act m l (m .need (m .after s view)) (m .after s view) (drop takes inp) (room - length (m .says s view))
+        moved (takes-one p) = same _ _ _ (omega (arith, shown, fits, inside, left)) (omega (arith, shown, fits, inside, left))
+        moved (sends-one p q) = same _ _ _ (omega (arith, shown, fits, inside, left)) (omega (arith, shown, fits, inside, left))
+        moved (stops p) = rw p (act-run k _ _ _ ∙ sym (act-run l _ _ _))
+
+    fuel-step : (k l : ℕ) → Same k l → Same (suc k) (suc l)
+    unfolding Same act
+    fuel-step k l same s inp room h g = go (m .need s) refl
+      where
+        go : (n : Need) → m .need s ≡ n → act m (suc k) n s inp room ≡ act m (suc l) n s inp room
+        go runs e = refl
+        go (acts views takes) e = cond-same _ _ _ _ (λ t.
+            ap (join (acted (m .says s (take views inp)) takes (m .after s (take views inp)))) (fuel-later k l same s inp room views takes e t (omega arith) (omega arith)))
+
+    -- more actions than can be made change nothing
+    act-fuel : (k l : ℕ) → Same k l
+    unfolding Same
+    act-fuel zero l s inp room h g = absurd (let z : ⊥ = omega arith in z)
+    act-fuel (suc k) zero s inp room h g = absurd (let z : ⊥ = omega arith in z)
+    act-fuel (suc k) (suc l) s inp room h g = fuel-step k l (act-fuel k l) s inp room h g
+
+    -- a call's first action
+    pub call-act : (s : S) (inp : List A) (room views takes : ℕ) → m .need s ≡ acts views takes → views ≤ length inp →
+        length (m .says s (take views inp)) ≤ room →
+        let next = m .after s (take views inp) in
+        let said = m .says s (take views inp) in
+        call m s inp room ≡ join (acted said takes next) (call m next (drop takes inp) (room - length said))
+    unfolding Same call act
+    call-act s inp room views takes e shown fits =
+        rw e (simp (le-leb _ _ shown, le-leb _ _ fits)
+        (ap (join (acted (m .says s view) takes (m .after s view))) (moved (law .moves s view views takes e (length-take-le views inp shown)))))
+      where
+        view : List A
+        view = take views inp
+
+        inside : takes ≤ views
+        inside = law .takes-in-view s views takes e
+
+        rest : List A
+        rest = drop takes inp
+
+        left : length rest ≡ length inp - takes
+        left = length-drop takes inp
+
+        remain : ℕ
+        remain = room - length (m .says s view)
+
+        enough : length rest + remain < suc (length rest + remain)
+        enough = omega arith
+
+        moved : Moves m s view views takes →
+            act m (length inp + room) (m .need (m .after s view)) (m .after s view) rest remain
+            ≡ act m (suc (length rest + remain)) (m .need (m .after s view)) (m .after s view) rest remain
+        moved (takes-one p) = act-fuel (length inp + room) (suc (length rest + remain)) _ rest remain (omega (arith, shown, fits, inside, left)) enough
+        moved (sends-one p q) = act-fuel (length inp + room) (suc (length rest + remain)) _ rest remain (omega (arith, shown, fits, inside, left)) enough
+        moved (stops p) = rw p (act-run (length inp + room) (m .after s view) rest remain ∙ sym (act-run (suc (length rest + remain)) (m .after s view) rest remain))
+
+    -- what is due, with nothing due and with one action more
+    drain-take : (s : S) (views takes : ℕ) → m .need s ≡ acts (suc views) takes → drain m s ≡ halt s
+    unfolding drain
+    drain-take s views takes e = rw e (go (m .due s))
+      where
+        go : (k : ℕ) → drainAt m k (acts (suc views) takes) s ≡ halt s
+        go zero = refl
+        go (suc k) = refl
+
+    drain-run : (s : S) → m .need s ≡ runs → drain m s ≡ halt s
+    unfolding drain
+    drain-run s e = rw e (go (m .due s))
+      where
+        go : (k : ℕ) → drainAt m k runs s ≡ halt s
+        go zero = refl
+        go (suc k) = refl
+
+    drain-send : (s : S) (takes : ℕ) → Sound s → m .need s ≡ acts 0 takes →
+        drain m s ≡ join (acted (m .says s []) 0 (m .after s [])) (drain m (m .after s []))
+    unfolding drain
+    drain-send s takes g e = rw (e, law .due-exact s takes g e)
+
+    -- the uncut definition's fuel suffices too
+    SameFeed : (k l : ℕ) → Type 0
+    SameFeed k l = (s : S) (stream : List A) → length stream < k → length stream < l → feed m k (m .need s) s stream ≡ feed m l (m .need s) s stream
+
+    feed-run : (k : ℕ) (s : S) (stream : List A) → feed m k runs s stream ≡ halt s
+    unfolding feed
+    feed-run zero s stream = refl
+    feed-run (suc k) s stream = refl
+
+    -- after one action with a view: what is due, and then any fuel that is enough
+    feed-moved : (k l : ℕ) → SameFeed k l → (s : S) (stream : List A) (views takes : ℕ) → m .need s ≡ acts (suc views) takes → suc views ≤ length stream →
+        length stream ≤ k → (0 < takes → length stream - takes < l) →
+        let d = drain m (m .after s (take (suc views) stream)) in
+        feed m k (m .need (d .final)) (d .final) (drop takes stream) ≡ feed m l (m .need (d .final)) (d .final) (drop takes stream)
+    unfolding SameFeed
+    feed-moved k l same s stream views takes e shown h g = moved (law .moves s view (suc views) takes e (length-take-le (suc views) stream shown))
+      where
+        view : List A
+        view = take (suc views) stream
+
+        next : S
+        next = m .after s view
+
+        left : length (drop takes stream) ≡ length stream - takes
+        left = length-drop takes stream
+
+        inside : takes ≤ suc views
+        inside = law .takes-in-view s (suc views) takes e
+
+        moved : Moves m s view (suc views) takes →
+            feed m k (m .need (drain m next .final)) (drain m next .final) (drop takes stream)
+            ≡ feed m l (m .need (drain m next .final)) (drain m next .final) (drop takes stream)
+        moved (takes-one p) = same _ _ (omega (arith, shown, inside, left)) (omega (arith, left, g p))
+        moved (sends-one p q) = absurd (let z : ⊥ = omega arith in z)
+        moved (stops p) = rw (drain-run next p, p) (feed-run k next _ ∙ sym (feed-run l next _))
+
+    feed-step : (k l : ℕ) → SameFeed k l → SameFeed (suc k) (suc l)
+    unfolding SameFeed feed
+    feed-step k l same s stream h g = go (m .need s) refl
+      where
+        go : (n : Need) → m .need s ≡ n → feed m (suc k) n s stream ≡ feed m (suc l) n s stream
+        go runs e = refl
+        go (acts zero takes) e = refl
+        go (acts (suc views) takes) e =
+            let view = take (suc views) stream in
+            let d = drain m (m .after s view) in
+            cond-same _ _ _ _ (λ t.
+            let shown : suc views ≤ length stream = leb-true _ _ t in
+            ap (λ o. join (acted (m .says s view) takes (m .after s view)) (join d o))
+            (feed-moved k l same s stream views takes e shown (omega arith) (λ p. omega (arith, shown, law .takes-in-view s (suc views) takes e))))
+
+    feed-fuel : (k l : ℕ) → SameFeed k l
+    unfolding SameFeed
+    feed-fuel zero l s stream h g = absurd (let z : ⊥ = omega arith in z)
+    feed-fuel (suc k) zero s stream h g = absurd (let z : ⊥ = omega arith in z)
+    feed-fuel (suc k) (suc l) s stream h g = feed-step k l (feed-fuel k l) s stream h g
+
+    feed-some : (k : ℕ) (s : S) (stream : List A) (views takes : ℕ) → suc views ≤ length stream →
+        let view = take (suc views) stream in
+        let d = drain m (m .after s view) in
+        feed m (suc k) (acts (suc views) takes) s stream
+        ≡ join (acted (m .says s view) takes (m .after s view)) (join d (feed m k (m .need (d .final)) (d .final) (drop takes stream)))
+    unfolding feed
+    feed-some k s stream views takes h = simp (le-leb _ _ h)
+
+    -- the uncut definition stops where code runs, and where the stream is too short
+    pub uncut-run : (s : S) (stream : List A) → m .need s ≡ runs → uncut m s stream ≡ halt s
+    unfolding uncut
+    uncut-run s stream e = rw (drain-run s e, e, feed-run (suc (length stream)) s stream) (halt-join s (halt s))
+
+    pub uncut-short : (s : S) (stream : List A) (views takes : ℕ) → m .need s ≡ acts views takes → length stream < views → uncut m s stream ≡ halt s
+    unfolding uncut feed
+    uncut-short s stream zero takes e h = absurd (let z : ⊥ = omega arith in z)
+    uncut-short s stream (suc views) takes e h = rw (drain-take s views takes e, e) (simp (lt-leb _ _ h) (halt-join s (halt s)))
+
+    -- its first action
+    pub uncut-act : (s : S) → Sound s → (stream : List A) (views takes : ℕ) → m .need s ≡ acts views takes → views ≤ length stream →
+        let view = take views stream in
+        uncut m s stream ≡ join (acted (m .says s view) takes (m .after s view)) (uncut m (m .after s view) (drop takes stream))
+    unfolding uncut
+    uncut-act s g stream zero zero e h =
+        let next = m .after s [] in
+        let d = drain m next in
+        rw (drain-send s 0 g e) (join-assoc (acted (m .says s []) 0 next) d (feed m (suc (length stream)) (m .need (d .final)) (d .final) stream))
+    uncut-act s g stream zero (suc takes) e h = absurd (let z : ⊥ = omega (arith, law .takes-in-view s 0 (suc takes) e) in z)
+    uncut-act s g stream (suc views) takes e h = rw (drain-take s views takes e, e) (halt-join s _ ∙ first)
+      where
+        view : List A
+        view = take (suc views) stream
+
+        next : S
+        next = m .after s view
+
+        left : length (drop takes stream) ≡ length stream - takes
+        left = length-drop takes stream
+
+        first : feed m (suc (length stream)) (acts (suc views) takes) s stream
+            ≡ join (acted (m .says s view) takes next)
+            (join (drain m next) (feed m (suc (length (drop takes stream))) (m .need (drain m next .final)) (drain m next .final) (drop takes stream)))
+        first =
+            feed-some (length stream) s stream views takes h
+            ∙ ap (λ o. join (acted (m .says s view) takes next) (join (drain m next) o))
+            (feed-moved (length stream) (suc (length (drop takes stream))) (feed-fuel _ _) s stream views takes e h (omega arith) (λ p. omega (arith, left)))

@@ -1,0 +1,109 @@
+-- Cuts and rooms never change the outcome: the claim, over any lawful machine.
+-- Assumes nothing.
+use Prim.Native.Nat.{ℕ, suc, _+_, _≤_, _<_}
+use native.Mathlib.Omega.{arith}
+use mathlib.Core.Path.{_≡_, refl, sym, ap, _∙_}
+use mathlib.Core.Bool.{cond}
+use mathlib.Core.List.{List, [], _++_}
+use lib.Dec.{ltb}
+use lib.ListN.{length, take, drop, length-append, take-append-drop}
+use lib.Seq.{drop-drop}
+use borrow.Author.Tests.{ltb-true}
+use borrow.Table.Steps.{cases}
+use Rattle.machine.specs.Machine.{Need, acts, runs, Machine}
+use Rattle.machine.specs.Outcome.{Outcome, halt, acted, join}
+use Rattle.machine.specs.Call.{Call, standing, standingOf, call, calls}
+use Rattle.machine.specs.Uncut.{uncut}
+use Rattle.machine.specs.History.{Came}
+use Rattle.machine.specs.Lawful.{Every, Lawful}
+use Rattle.machine.specs.Claim.{Begins, Stopped, waits, running, Holds, Claim}
+use Rattle.machine.proofs.Outcomes.{halt-join, join-halt}
+use Rattle.machine.proofs.Actions.{uncut-run, uncut-short, uncut-act}
+use Rattle.machine.proofs.Paths.{begins-take, begins-drop, path-keeps, call-came, calls-came, at-start, path-continues, uncut-came}
+use Rattle.machine.proofs.Stops.{unless-full, call-blocked, uncut-stops}
+
+module _ {A S : Type 0} (m : Machine A S) {Good : A → Type 0} {Sound : S → Type 0} (law : Lawful m Good Sound) where
+  -- the uncut definition does nothing where a machine has stopped
+  stopped-uncut : (s : S) (left : List A) → Stopped m s left → uncut m s left ≡ halt s
+  stopped-uncut s left (running e) = go (m .need s) refl
+    where
+      go : (n : Need) → m .need s ≡ n → uncut m s left ≡ halt s
+      go runs f = uncut-run m law s left f
+      go (acts views takes) f = absurd (cases (ltb (length left) views) (λ t. not-3 1 (rw (f, t) at e) (omega arith)) (λ t. not-3 2 (rw (f, t) at e) (omega arith)))
+        where
+          not-3 : (n : ℕ) → n ≡ 3 → n < 3 → ⊥
+          not-3 n q h = omega arith
+  stopped-uncut s left (waits e) = go (m .need s) refl
+    where
+      go : (n : Need) → m .need s ≡ n → uncut m s left ≡ halt s
+      go runs f = uncut-run m law s left f
+      go (acts views takes) f = cases (ltb (length left) views) (λ t. uncut-short m law s left views takes f (ltb-true _ _ t)) (λ t. absurd (not-1 2 (rw (f, t) at e) (omega arith)))
+        where
+          not-1 : (n : ℕ) → n ≡ 1 → 1 < n → ⊥
+          not-1 n q h = omega arith
+
+  module _ (start : S) (g : Sound start) (stream : List A) (w : Every Good stream) where
+    -- what has come to o: the definition goes on from there
+    module _ (o : Outcome S) (c : Came m start stream o) where
+      rest : List A
+      rest = drop (o .taken) stream
+
+      continues : uncut m start stream ≡ join o (uncut m (o .final) rest)
+      unfolding rest
+      continues = path-continues m law start stream g w (c .path)
+
+      stopped-same : Stopped m (o .final) rest → o ≡ uncut m start stream
+      stopped-same s = sym (continues ∙ rw (stopped-uncut (o .final) rest s) (join-halt o))
+
+      -- a call that has an action's symbols in view lacks room for replies of the definition
+      room-lacks : (shown room views takes : ℕ) →
+          let input = take shown rest in
+          let p = call m (o .final) input room in
+          length (uncut m start stream .replies) ≤ length (o .replies) + room →
+          m .need (p .final) ≡ acts views takes → views ≤ length (drop (p .taken) input) → ⊥
+      unfolding rest
+      room-lacks shown room views takes h e v =
+          let input = take shown rest in
+          let p = call m (o .final) input room in
+          let b = call-blocked m law (o .final) input room in
+          let full = b .full views takes e v in
+          let front : Begins input rest = record { back = drop shown rest; is = sym (take-append-drop shown rest) } in
+          let later : Begins (drop (p .taken) input) (drop (p .taken) rest) = begins-drop input rest (p .taken) front (b .within) in
+          let view = take views (drop (p .taken) input) in
+          let same : view ≡ take views (drop (p .taken) rest) = begins-take (drop (p .taken) input) (drop (p .taken) rest) views later v in
+          let on = call-came m law start stream o c shown room in
+          let sound : Sound (p .final) = path-keeps m law start stream (law .stays-sound) w g (on .path) in
+          let enough : views ≤ length (drop (p .taken) rest) = omega (arith, v, ap length (later .is), length-append (drop (p .taken) input) (later .back)) in
+          let act = uncut-act m law (p .final) sound (drop (p .taken) rest) views takes e enough in
+          let whole = path-continues m law start stream g w (on .path) in
+          let whole′ = rw (← drop-drop (p .taken) (o .taken) stream, act, ← same) at whole in
+          let sent = o .replies ++ p .replies in
+          let said = m .says (p .final) view in
+          let last = uncut m (m .after (p .final) view) (drop takes (drop (p .taken) rest)) .replies in
+          let count : length (uncut m start stream .replies) ≡ length (sent ++ (said ++ last)) = ap (λ x. length (x .replies)) whole′ in
+          omega (arith, count, length-append sent (said ++ last), length-append (o .replies) (p .replies), length-append said last, full, h)
+
+      enough-room : (shown room : ℕ) → length (uncut m start stream .replies) ≤ length (o .replies) + room →
+          let input = take shown rest in
+          let p = call m (o .final) input room in
+          Stopped m (p .final) (drop (p .taken) input)
+      enough-room shown room h = unless-full m _ _ (λ views takes e v. room-lacks shown room views takes h e v)
+
+    -- the claim, for what has come to o
+    pub came-holds : (o : Outcome S) → Came m start stream o → Holds m start stream o (uncut m start stream)
+    unfolding rest
+    came-holds o c =
+        record {
+          definition-stops = uncut-stops m law start g stream w;
+          replies-begin = record { back = uncut m (o .final) (drop (o .taken) stream) .replies; is = ap (λ x. x .replies) (continues o c) };
+          taken-within = omega (arith, ap (λ x. x .taken) (continues o c));
+          stopped = stopped-same o c;
+          enough-room = enough-room o c;
+          history = (c, uncut-came m law start stream);
+        }
+
+-- cuts never matter
+pub cuts-never-matter : {A S : Type 0} (m : Machine A S) {Good : A → Type 0} {Sound : S → Type 0} → Lawful m Good Sound → Claim m Good Sound
+cuts-never-matter m law start g stream w cs =
+    let c = calls-came m law start stream cs (halt start) (at-start m law start stream) in
+    came-holds m law start g stream w (calls m start stream cs) (rw (halt-join start (calls m start stream cs)) at c)

@@ -1,0 +1,7 @@
+pub mod Outcomes
+pub mod Actions
+pub mod Paths
+pub mod Stops
+pub mod Cuts
+pub mod Sessions
+pub mod Loops

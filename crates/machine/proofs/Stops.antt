@@ -1,0 +1,204 @@
+-- Where a call and where the uncut definition stop.
+-- Assumes nothing.
+use Prim.Native.Nat.{ℕ, zero, suc, _+_, _-_, _≤_, _<_}
+use native.Mathlib.Omega.{arith}
+use native.Mathlib.Nat.{zero-add}
+use mathlib.Core.Path.{_≡_, refl, sym, ap, subst, _∙_}
+use mathlib.Core.Bool.{Bool, true, false, cond, _&&_}
+use mathlib.Core.List.{List, [], _∷_, _++_}
+use lib.Dec.{leb, ltb}
+use lib.ListN.{length, take, drop, length-drop, length-append}
+use lib.Seq.{length-take-le, drop-drop}
+use borrow.Author.Tests.{leb-true, leb-false, le-leb, lt-ltb, ltb-false}
+use borrow.Table.Steps.{cases}
+use Rattle.machine.specs.Machine.{Need, acts, runs, Machine}
+use Rattle.machine.specs.Outcome.{Outcome, halt, acted, join}
+use Rattle.machine.specs.Call.{standing, act, call}
+use Rattle.machine.specs.Uncut.{drainAt, drain, feed, uncut}
+use Rattle.machine.specs.Lawful.{Every, Kept, Moves, takes-one, sends-one, stops, Lawful}
+use Rattle.machine.specs.Claim.{Stopped, waits, running}
+use Rattle.machine.proofs.Outcomes.{both-true}
+use Rattle.machine.proofs.Paths.{every-take, every-drop}
+use Rattle.machine.proofs.Actions.{drain-takes-none}
+
+-- no machine runs code and acts
+pub not-both : (views takes : ℕ) → runs ≡ acts views takes → ⊥
+not-both views takes e = let z : _≡_ {A = ℕ} 0 1 = cc in omega arith
+
+abbrev viewsOf : Need → ℕ
+viewsOf (acts views takes) = views
+viewsOf runs = 0
+
+module _ {A S : Type 0} (m : Machine A S) where
+  -- waiting for room: an action has its symbols in view
+  pub unless-full : (s : S) (left : List A) → ((views takes : ℕ) → m .need s ≡ acts views takes → views ≤ length left → ⊥) → Stopped m s left
+  unless-full s left h = go (m .need s) refl
+    where
+      go : (n : Need) → m .need s ≡ n → Stopped m s left
+      go runs e = running (rw e refl)
+      go (acts views takes) e =
+          cases (ltb (length left) views) (λ t. waits (rw (e, t) refl)) (λ f. absurd (h views takes e (ltb-false _ _ f)))
+
+  -- what a call's outcome says of itself: it keeps to its input and its room, and an action that it left has no room
+  pub record Blocked (inp : List A) (room : ℕ) (o : Outcome S) : Type 0 where
+    pub within : o .taken ≤ length inp
+    pub fits : length (o .replies) ≤ room
+    pub full : (views takes : ℕ) → m .need (o .final) ≡ acts views takes → views ≤ length (drop (o .taken) inp) →
+        room < length (o .replies) + length (m .says (o .final) (take views (drop (o .taken) inp)))
+
+  halt-runs : (s : S) (inp : List A) (room : ℕ) → m .need s ≡ runs → Blocked inp room (halt s)
+  halt-runs s inp room e = record { within = omega arith; fits = omega arith; full = λ v t f h. absurd (not-both v t (sym e ∙ f)) }
+
+  module _ {Good : A → Type 0} {Sound : S → Type 0} (law : Lawful m Good Sound) where
+    AllBlocked : (fuel : ℕ) → Type 0
+    AllBlocked fuel = (s : S) (inp : List A) (room : ℕ) → length inp + room < fuel → Blocked inp room (act m fuel (m .need s) s inp room)
+
+    blocked-more : (k : ℕ) → AllBlocked k → AllBlocked (suc k)
+    unfolding AllBlocked act
+    blocked-more k ih s inp room h = go (m .need s) refl
+      where
+        go : (n : Need) → m .need s ≡ n → Blocked inp room (act m (suc k) n s inp room)
+        go runs e = halt-runs s inp room e
+        go (acts views takes) e = cases (leb views (length inp) && leb (length said) room) (λ t. rw t (passes t)) (λ f. rw f (stays f))
+          where
+            view : List A
+            view = take views inp
+
+            said : List ℕ
+            said = m .says s view
+
+            next : S
+            next = m .after s view
+
+            -- the rest of the call, with its input and room, is blocked
+            Later : Type 0
+            Later = Blocked (drop takes inp) (room - length said) (act m k (m .need next) next (drop takes inp) (room - length said))
+
+            later : Moves m s view views takes → views ≤ length inp → length said ≤ room → Later
+            later (takes-one p) shown fits = ih next (drop takes inp) (room - length said) (omega (arith, law .takes-in-view s views takes e, length-drop takes inp))
+            later (sends-one p q) shown fits = ih next (drop takes inp) (room - length said) (omega (arith, law .takes-in-view s views takes e, length-drop takes inp))
+            later (stops p) shown fits = rw p (over k)
+              where
+                over : (k : ℕ) → Blocked (drop takes inp) (room - length said) (act m k runs next (drop takes inp) (room - length said))
+                over zero = halt-runs next (drop takes inp) (room - length said) p
+                over (suc k) = halt-runs next (drop takes inp) (room - length said) p
+
+            passes : (leb views (length inp) && leb (length said) room) ≡ true →
+                Blocked inp room (join (acted said takes next) (act m k (m .need next) next (drop takes inp) (room - length said)))
+            passes t =
+                let shown : views ≤ length inp = leb-true _ _ (both-true (leb views (length inp)) (leb (length said) room) t .0) in
+                let fits : length said ≤ room = leb-true _ _ (both-true (leb views (length inp)) (leb (length said) room) t .1) in
+                let b = later (law .moves s view views takes e (length-take-le views inp shown)) shown fits in
+                let o = act m k (m .need next) next (drop takes inp) (room - length said) in
+                let sum : length (said ++ o .replies) ≡ length said + length (o .replies) = length-append said (o .replies) in
+                record {
+                  within = omega (arith, b .within, length-drop takes inp, law .takes-in-view s views takes e);
+                  fits = omega (arith, b .fits, sum);
+                  full = λ v u f l.
+                      let l′ : v ≤ length (drop (o .taken) (drop takes inp)) = rw (drop-drop (o .taken) takes inp) l in
+                      let q = rw (drop-drop (o .taken) takes inp) at (b .full v u f l′) in
+                      omega (arith, q, sum);
+                }
+
+            stays : (leb views (length inp) && leb (length said) room) ≡ false → Blocked inp room (halt s)
+            stays f =
+                record {
+                  within = omega arith;
+                  fits = omega arith;
+                  full = λ v u g l. full v u g l;
+                }
+              where
+                full : (v u : ℕ) → m .need s ≡ acts v u → v ≤ length inp → room < 0 + length (m .says s (take v inp))
+                full v u g l =
+                    let same : acts v u ≡ acts views takes = sym g ∙ e in
+                    let v-is : v ≡ views = ap viewsOf same in
+                    let shown : leb views (length inp) ≡ true = le-leb views (length inp) (rw v-is at l) in
+                    let short : leb (length said) room ≡ false = rw shown at f in
+                    rw v-is (omega (arith, leb-false (length said) room short))
+
+    blocked-all : (k : ℕ) → AllBlocked k
+    unfolding AllBlocked
+    blocked-all zero s inp room h = absurd (let z : ⊥ = omega arith in z)
+    blocked-all (suc k) s inp room h = blocked-more k (blocked-all k) s inp room h
+
+    pub call-blocked : (s : S) (inp : List A) (room : ℕ) → Blocked inp room (call m s inp room)
+    unfolding AllBlocked call
+    call-blocked s inp room = blocked-all (suc (length inp + room)) s inp room (omega arith)
+
+    -- once what is due is sent, the next action has something in view
+    settled-at : (k : ℕ) (n : Need) (s : S) → Sound s → m .need s ≡ n → m .due s ≡ k → (takes : ℕ) → m .need (drainAt m k n s .final) ≡ acts 0 takes → ⊥
+    settled-at zero n s g e d takes f = omega (arith, law .due-exact s takes g f)
+    settled-at (suc k) runs s g e d takes f = not-both 0 takes (sym e ∙ f)
+    settled-at (suc k) (acts (suc views) t) s g e d takes f = let z : suc views ≡ 0 = ap viewsOf (sym e ∙ f) in omega arith
+    settled-at (suc k) (acts zero t) s g e d takes f =
+        settled-at k (m .need (m .after s [])) (m .after s []) (law .stays-sound [] s [] 0 t e refl tt g) refl (omega (arith, law .due-exact s t g e)) takes f
+
+    drain-sound-at : (k : ℕ) (n : Need) (s : S) → Sound s → m .need s ≡ n → Sound (drainAt m k n s .final)
+    drain-sound-at zero n s g e = g
+    drain-sound-at (suc k) runs s g e = g
+    drain-sound-at (suc k) (acts (suc views) t) s g e = g
+    drain-sound-at (suc k) (acts zero t) s g e =
+        drain-sound-at k (m .need (m .after s [])) (m .after s []) (law .stays-sound [] s [] 0 t e refl tt g) refl
+
+    -- from such a state the uncut definition ends where the stream is too short, or where code runs
+    AllStopped : (fuel : ℕ) → Type 0
+    AllStopped fuel = (s : S) → Sound s → ((takes : ℕ) → m .need s ≡ acts 0 takes → ⊥) → (stream : List A) → Every Good stream → length stream < fuel →
+        let o = feed m fuel (m .need s) s stream in
+        Stopped m (o .final) (drop (o .taken) stream)
+
+    stopped-more : (k : ℕ) → AllStopped k → AllStopped (suc k)
+    unfolding AllStopped feed drain
+    stopped-more k ih s g h stream w f = go (m .need s) refl
+      where
+        go : (n : Need) → m .need s ≡ n → Stopped m (feed m (suc k) n s stream .final) (drop (feed m (suc k) n s stream .taken) stream)
+        go runs e = running (rw e refl)
+        go (acts zero takes) e = absurd (h takes e)
+        go (acts (suc views) takes) e = cases (leb (suc views) (length stream)) (λ t. rw t (passes t)) (λ n. rw n (waits (rw (e, lt-ltb _ _ (leb-false _ _ n)) refl)))
+          where
+            view : List A
+            view = take (suc views) stream
+
+            next : S
+            next = m .after s view
+
+            due : Outcome S
+            due = drainAt m (m .due next) (m .need next) next
+
+            last : Outcome S
+            last = feed m k (m .need (due .final)) (due .final) (drop takes stream)
+
+            passes : leb (suc views) (length stream) ≡ true →
+                Stopped m (last .final) (drop (takes + (due .taken + last .taken)) stream)
+            passes t =
+                let shown : suc views ≤ length stream = leb-true _ _ t in
+                let v : length view ≡ suc views = length-take-le (suc views) stream shown in
+                let sound : Sound next = law .stays-sound [] s view (suc views) takes e v (every-take Good (suc views) stream w) g in
+                let none : due .taken ≡ 0 = drain-takes-none m (m .due next) (m .need next) next in
+                rw (none, zero-add, ← drop-drop (last .taken) takes stream) (moved (law .moves s view (suc views) takes e v) shown sound)
+              where
+                moved : Moves m s view (suc views) takes → suc views ≤ length stream → Sound next → Stopped m (last .final) (drop (last .taken) (drop takes stream))
+                moved (takes-one p) shown sound =
+                    ih (due .final) (drain-sound-at (m .due next) (m .need next) next sound refl) (settled-at (m .due next) (m .need next) next sound refl refl)
+                    (drop takes stream) (every-drop Good takes stream w) (omega (arith, shown, length-drop takes stream))
+                moved (sends-one p q) shown sound = absurd (let z : ⊥ = omega arith in z)
+                moved (stops p) shown sound = ended (m .due next) k
+                  where
+                    ended : (d k : ℕ) → let u = drainAt m d (m .need next) next in let o = feed m k (m .need (u .final)) (u .final) (drop takes stream) in
+                        Stopped m (o .final) (drop (o .taken) (drop takes stream))
+                    ended zero zero = running (rw p refl)
+                    ended zero (suc k) = rw p (running (rw p refl))
+                    ended (suc d) zero = rw p (running (rw p refl))
+                    ended (suc d) (suc k) = rw p (rw p (running (rw p refl)))
+
+    stopped-all : (k : ℕ) → AllStopped k
+    unfolding AllStopped
+    stopped-all zero s g h stream w f = absurd (let z : ⊥ = omega arith in z)
+    stopped-all (suc k) s g h stream w f = stopped-more k (stopped-all k) s g h stream w f
+
+    pub uncut-stops : (s : S) → Sound s → (stream : List A) → Every Good stream →
+        Stopped m (uncut m s stream .final) (drop (uncut m s stream .taken) stream)
+    unfolding AllStopped uncut drain
+    uncut-stops s g stream w =
+        let due = drainAt m (m .due s) (m .need s) s in
+        rw (drain-takes-none m (m .due s) (m .need s) s, zero-add)
+        (stopped-all (suc (length stream)) (due .final) (drain-sound-at (m .due s) (m .need s) s g refl) (settled-at (m .due s) (m .need s) s g refl refl) stream w (omega arith))

@@ -1,0 +1,47 @@
+-- A call, and a list of calls to one session (01, "Memories and the record": a call acts until it is blocked; "Demand 3": a list).
+-- Assumes nothing.
+use Prim.Native.Nat.{ℕ, zero, suc, _+_, _-_}
+use mathlib.Core.Bool.{cond, _&&_}
+use mathlib.Core.List.{List, [], _∷_}
+use lib.Dec.{leb, ltb}
+use lib.ListN.{length, take, drop}
+use Rattle.machine.specs.Machine.{Need, acts, runs, Machine}
+use Rattle.machine.specs.Outcome.{Outcome, halt, acted, join}
+
+-- one entry of a list: shown so many of the symbols not yet taken, with so much reply room; or a refused call
+pub data Call : Type 0 where
+  offered : (shown room : ℕ) → Call
+  refused : Call
+
+-- where a call has stopped, with so many symbols left: 1 an action needs more, 2 it needs room, 3 code runs
+abbrev pub standingOf : Need → (left : ℕ) → ℕ
+standingOf (acts views takes) left = cond (ltb left views) 1 2
+standingOf runs left = 3
+
+module _ {A S : Type 0} (m : Machine A S) where
+  abbrev pub standing : S → (left : List A) → ℕ
+  standing s left = standingOf (m .need s) (length left)
+
+  -- at most so many actions, each as far as the input shows its symbols and the room holds its bytes
+  unfoldable pub act : (fuel : ℕ) → Need → S → (input : List A) (room : ℕ) → Outcome S
+  act zero need s input room = halt s
+  act (suc fuel) runs s input room = halt s
+  act (suc fuel) (acts views takes) s input room =
+      let view = take views input in
+      let said = m .says s view in
+      let next = m .after s view in
+      cond (leb views (length input) && leb (length said) room)
+      (join (acted said takes next) (act fuel (m .need next) next (drop takes input) (room - length said)))
+      (halt s)
+
+  -- each action takes a symbol, sends a byte or is the last one, so this many suffice
+  unfoldable pub call : S → (input : List A) (room : ℕ) → Outcome S
+  call s input room = act (suc (length input + room)) (m .need s) s input room
+
+  -- a list of calls, where `rest` is the part of the stream not yet taken
+  unfoldable pub calls : S → (rest : List A) → List Call → Outcome S
+  calls s rest [] = halt s
+  calls s rest (offered shown room ∷ later) =
+      let o = call s (take shown rest) room in
+      join o (calls (o .final) (drop (o .taken) rest) later)
+  calls s rest (refused ∷ later) = calls s rest later

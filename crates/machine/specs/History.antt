@@ -1,0 +1,27 @@
+-- What happened on the way: the actions of a machine in order. No action reads them.
+-- Assumes nothing.
+use Prim.Native.Nat.{ℕ}
+use mathlib.Core.Path.{_≡_}
+use mathlib.Core.List.{List, [], _∷_}
+use lib.ListN.{length, take, drop}
+use Rattle.machine.specs.Machine.{acts, Machine}
+use Rattle.machine.specs.Outcome.{Outcome, halt, acted, join}
+
+-- an action: the state in which it was made, and the symbols in view
+pub record Event (A S : Type 0) : Type 0 where
+  pub state : S
+  pub view : List A
+
+-- from `start` on a stream, the events (the last one first) lead to an outcome
+pub data Path {A S : Type 0} (m : Machine A S) (start : S) (stream : List A) : List (Event A S) → Outcome S → Type 0 where
+  here : Path m start stream [] (halt start)
+  more : {events : List (Event A S)} {o : Outcome S} {views takes : ℕ} {view : List A} →
+      Path m start stream events o → m .need (o .final) ≡ acts views takes →
+      view ≡ take views (drop (o .taken) stream) → length view ≡ views →
+      Path m start stream (record { state = o .final; view = view } ∷ events)
+      (join o (acted (m .says (o .final) view) takes (m .after (o .final) view)))
+
+-- some events lead there
+pub record Came {A S : Type 0} (m : Machine A S) (start : S) (stream : List A) (o : Outcome S) : Type 0 where
+  pub events : List (Event A S)
+  pub path : Path m start stream events o

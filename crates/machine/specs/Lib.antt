@@ -1,0 +1,12 @@
+pub mod Machine
+pub mod Outcome
+pub mod Call
+pub mod Uncut
+pub mod History
+pub mod Lawful
+pub mod Claim
+pub mod Session
+pub mod Loop
+pub mod Listing
+pub mod SessionLaws
+pub mod SessionClaim

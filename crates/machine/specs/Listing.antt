@@ -1,0 +1,62 @@
+-- A list of calls to one session, each with the record and the memories that the one before it left (01, "Demand 3").
+-- Assumes nothing.
+use Prim.Native.Nat.{ℕ, _+_}
+use mathlib.Core.Path.{_≡_}
+use mathlib.Core.List.{List, [], _∷_, _++_}
+use lib.ListN.{length, take, drop}
+use Rattle.machine.specs.Outcome.{Outcome}
+use Rattle.machine.specs.Session.{Session, Answer, answerOf}
+use Rattle.machine.specs.declared.Record.{Record}
+
+-- a call of the list: how many of the bytes not yet taken it is shown, and the reply slice that it is lent
+pub record Lent : Type 0 where
+  pub shown : ℕ
+  pub reply : List ℕ
+
+-- what a list of calls, or the uncut definition, gives
+pub record Given (M : Type 0) : Type 0 where
+  pub replies : List ℕ
+  pub taken : ℕ
+  pub sent : ℕ
+  pub session : Record
+  pub memories : M
+
+-- the sent bytes of all calls in call order, the counts added up, and the last record and memories
+abbrev pub totals : {M : Type 0} → Record → M → List (Answer M) → Given M
+totals session mem [] = record { replies = []; taken = 0; sent = 0; session = session; memories = mem }
+totals session mem (a ∷ later) =
+    let g = totals (a .report .session) (a .memories) later in
+    record {
+      replies = take (a .report .sent) (a .reply) ++ g .replies;
+      taken = a .report .taken + g .taken;
+      sent = a .report .sent + g .sent;
+      session = g .session;
+      memories = g .memories;
+    }
+
+module _ {M S : Type 0} (σ : Session M S) where
+  -- what the calls of a list answer, where `rest` is the part of the stream not yet taken
+  unfoldable pub answers : Record → M → (rest : List ℕ) → List Lent → List (Answer M)
+  answers session mem rest [] = []
+  answers session mem rest (c ∷ later) =
+      let a = answerOf σ session mem (take (c .shown) rest) (c .reply) in
+      a ∷ answers (a .report .session) (a .memories) (drop (a .report .taken) rest) later
+
+  -- the same of an outcome of the machine
+  abbrev pub given : Outcome S → Given M
+  given o =
+      record {
+        replies = o .replies;
+        taken = o .taken;
+        sent = length (o .replies);
+        session = σ .write (o .final);
+        memories = σ .memories (o .final);
+      }
+
+  -- what a program's calls gave back, each as the definition says, with the record and the memories that the one before it left
+  pub data Made : Record → M → (rest : List ℕ) → List Lent → List (Answer M) → Type 0 where
+    none : {session : Record} {mem : M} {rest : List ℕ} → Made session mem rest [] []
+    next : {session : Record} {mem : M} {rest : List ℕ} {c : Lent} {later : List Lent} {a : Answer M} {others : List (Answer M)} →
+        a ≡ answerOf σ session mem (take (c .shown) rest) (c .reply) →
+        Made (a .report .session) (a .memories) (drop (a .report .taken) rest) later others →
+        Made session mem rest (c ∷ later) (a ∷ others)

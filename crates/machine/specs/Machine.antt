@@ -1,0 +1,37 @@
+-- A session as a deterministic machine over input symbols A and states S (01, "Demand 3": a send, a take, code that runs).
+-- Assumes nothing.
+use Prim.Native.Nat.{ℕ}
+use mathlib.Core.List.{List, [], _∷_}
+
+-- what the next action asks: so many symbols in view, of which it takes so many; or that there is none, since code runs
+pub data Need : Type 0 where
+  acts : (views takes : ℕ) → Need
+  runs : Need
+
+pub record Machine (A S : Type 0) : Type 0 where
+  pub need : S → Need
+  -- the state after an action and the bytes that it sends, by the symbols in view
+  pub after : S → List A → S
+  pub says : S → List A → List ℕ
+  -- how many actions follow one another with nothing in view
+  pub due : S → ℕ
+
+-- a line's actions: take one symbol and send nothing, or send one byte with nothing in view
+abbrev pub take : Need
+take = acts 1 1
+
+abbrev pub send : Need
+send = acts 0 0
+
+module _ {A S : Type 0} where
+  abbrev pub lineAfter : (took : S → A → S) (sent : S → S) → S → List A → S
+  lineAfter took sent s [] = sent s
+  lineAfter took sent s (a ∷ view) = took s a
+
+  abbrev pub lineSays : (byte : S → ℕ) → S → List A → List ℕ
+  lineSays byte s [] = byte s ∷ []
+  lineSays byte s (a ∷ view) = []
+
+  -- a machine whose needs are take, send and runs: what a taken symbol does, the byte to send, the state once it is sent
+  abbrev pub line : (need : S → Need) (took : S → A → S) (byte : S → ℕ) (sent : S → S) (due : S → ℕ) → Machine A S
+  line need took byte sent due = record { need = need; after = lineAfter took sent; says = lineSays byte; due = due }

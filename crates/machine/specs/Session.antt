@@ -1,0 +1,79 @@
+-- A session as its caller sees it: a record and memories in, a report, record, reply and memories out (01, "Memories and the
+-- record" and "Numbers given back": call refusals).
+-- Assumes nothing.
+use Prim.Native.Nat.{ℕ}
+use mathlib.Core.Bool.{cond}
+use mathlib.Core.List.{List, _++_}
+use lib.Dec.{eqb}
+use lib.ListN.{length, drop}
+use Rattle.machine.specs.Machine.{Machine}
+use Rattle.machine.specs.Outcome.{Outcome}
+use Rattle.machine.specs.Call.{standing, call}
+use Rattle.machine.specs.declared.Record.{Record}
+use Rattle.machine.specs.declared.Report.{Report}
+
+-- what a record says: a state, or it is unsound
+pub data Read (S : Type 0) : Type 0 where
+  sound : S → Read S
+  unsound : Read S
+
+-- a session over memories M and states S
+pub record Session (M S : Type 0) : Type 0 where
+  pub machine : Machine ℕ S
+  -- the number that the lengths of the memories are refused with, 0 where they are not
+  pub refusal : M → ℕ
+  -- the state that a record stands for with these memories; a state's record and its memories
+  pub read : Record → M → Read S
+  pub write : S → Record
+  pub memories : S → M
+
+-- what a call gives back, with the lent slices after it
+pub record Answer (M : Type 0) : Type 0 where
+  pub report : Report
+  pub reply : List ℕ
+  pub memories : M
+
+-- the number that an unsound record is refused with
+abbrev pub badRecord : ℕ
+badRecord = 4
+
+-- a refused call changes nothing
+abbrev pub refused : {M : Type 0} → (number : ℕ) → Record → (reply : List ℕ) → M → Answer M
+refused number session reply mem =
+    record {
+      report = record { number = number; standing = 0; taken = 0; sent = 0; session = session };
+      reply = reply;
+      memories = mem;
+    }
+
+-- a reply slice with bytes sent into its front
+abbrev pub laid : (sent reply : List ℕ) → List ℕ
+laid sent reply = sent ++ drop (length sent) reply
+
+module _ {M S : Type 0} (σ : Session M S) where
+  -- an accepted call at s
+  unfoldable pub accepted : S → (input reply : List ℕ) → Answer M
+  accepted s input reply =
+      let o = call (σ .machine) s input (length reply) in
+      record {
+        report = record {
+          number = 0;
+          standing = standing (σ .machine) (o .final) (drop (o .taken) input);
+          taken = o .taken;
+          sent = length (o .replies);
+          session = σ .write (o .final);
+        };
+        reply = laid (o .replies) reply;
+        memories = σ .memories (o .final);
+      }
+
+  abbrev pub readAnswer : Read S → Record → M → (input reply : List ℕ) → Answer M
+  readAnswer (sound s) session mem input reply = accepted s input reply
+  readAnswer unsound session mem input reply = refused badRecord session reply mem
+
+  -- a call: lengths first, then the record
+  unfoldable pub answerOf : Record → M → (input reply : List ℕ) → Answer M
+  answerOf session mem input reply =
+      cond (eqb (σ .refusal mem) 0)
+      (readAnswer (σ .read session mem) session mem input reply)
+      (refused (σ .refusal mem) session reply mem)

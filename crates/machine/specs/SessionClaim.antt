@@ -1,0 +1,58 @@
+-- The claim about a whole list of calls to one session (01, "Demand 3, one claim about a whole list").
+-- Assumes nothing.
+use Prim.Native.Nat.{ℕ, _+_, _≤_}
+use mathlib.Core.Path.{_≡_}
+use mathlib.Core.List.{List, [], map}
+use lib.ListN.{length, take, drop}
+use Rattle.machine.specs.Outcome.{Outcome}
+use Rattle.machine.specs.Uncut.{uncut}
+use Rattle.machine.specs.History.{Event, Path, Came}
+use Rattle.machine.specs.Lawful.{Every}
+use Rattle.machine.specs.Claim.{Begins}
+use Rattle.machine.specs.Session.{Session, Answer, refused, answerOf}
+use Rattle.machine.specs.SessionLaws.{Byte}
+use Rattle.machine.specs.Listing.{Lent, Given, totals, answers, given}
+
+-- a call that took all it was shown and then waits for a byte, unless code runs
+pub data TookAll {M : Type 0} (input : List ℕ) (a : Answer M) : Type 0 where
+  waits : a .report .taken ≡ length input → a .report .standing ≡ 1 → TookAll input a
+  running : a .report .standing ≡ 3 → TookAll input a
+
+-- Told: what the events on the way say of the state that they led to
+module _ {M S : Type 0} (σ : Session M S) (Told : List (Event ℕ S) → S → Type 0) (start : S) (stream : List ℕ) where
+  abbrev definition : Given M
+  definition = given σ (uncut (σ .machine) start stream)
+
+  -- g are the totals of a list of calls; all its calls were accepted
+  pub record Follows (g : Given M) : Type 0 where
+    pub replies-begin : Begins (g .replies) (definition .replies)
+    pub taken-within : g .taken ≤ definition .taken
+    pub sent-within : g .sent ≤ definition .sent
+    -- all is taken and the session waits for a byte, or code runs, by what a call with no input and no room would report
+    pub all-taken : g .taken ≡ length stream → answerOf σ (g .session) (g .memories) [] [] .report .standing ≡ 1 → g ≡ definition
+    pub code-runs : answerOf σ (g .session) (g .memories) [] [] .report .standing ≡ 3 → g ≡ definition
+    -- the next call, with room for the replies that are still missing
+    pub enough-room : (shown : ℕ) (reply : List ℕ) → definition .sent ≤ g .sent + length reply →
+        let input = take shown (drop (g .taken) stream) in
+        TookAll input (answerOf σ (g .session) (g .memories) input reply)
+    -- the state that the list has come to, by actions of the machine, and what they say of it
+    pub reached : S
+    pub reached-is : (g .session ≡ σ .write reached) × (g .memories ≡ σ .memories reached)
+    pub history : Came (σ .machine) start stream (record { replies = g .replies; taken = g .taken; final = reached })
+    pub told : (events : List (Event ℕ S)) →
+        Path (σ .machine) start stream events (record { replies = g .replies; taken = g .taken; final = reached }) → Told events reached
+
+-- for every memories, stream of bytes and list of calls, from the fresh record of a session that starts at `fresh`
+pub record Holds {M S : Type 0} (σ : Session M S) (Told : List (Event ℕ S) → S → Type 0) (fresh : M → S) (mem : M) (stream : List ℕ)
+    (cs : List Lent) : Type 0 where
+  -- refused lengths: every call is refused with their number and changes nothing
+  pub refused-lengths : (σ .refusal mem ≡ 0 → ⊥) →
+      answers σ (σ .write (fresh mem)) mem stream cs ≡ map (λ (c : Lent). refused (σ .refusal mem) (σ .write (fresh mem)) (c .reply) mem) cs
+  -- else no call is refused, and the list follows the definition
+  pub no-refusal : σ .refusal mem ≡ 0 → Every (λ (a : Answer M). a .report .number ≡ 0) (answers σ (σ .write (fresh mem)) mem stream cs)
+  pub follows : σ .refusal mem ≡ 0 →
+      Follows σ Told (fresh mem) stream (totals (σ .write (fresh mem)) mem (answers σ (σ .write (fresh mem)) mem stream cs))
+
+abbrev pub Claim : {M S : Type 0} → Session M S → (Told : List (Event ℕ S) → S → Type 0) → (fresh : M → S) → Type 0
+Claim {M} σ Told fresh =
+    (mem : M) (stream : List ℕ) → Every Byte stream → (cs : List Lent) → Holds σ Told fresh mem stream cs

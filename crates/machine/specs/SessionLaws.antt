@@ -1,0 +1,30 @@
+-- What a session must keep to, so that its lists of calls follow the uncut definition. Every record that calls can reach is read
+-- as the state that wrote it (01, "Numbers given back", number 4: every reachable record is accepted).
+-- Assumes nothing.
+use Prim.Native.Nat.{ℕ, _≤_, _<_}
+use mathlib.Core.Path.{_≡_}
+use mathlib.Core.List.{List, []}
+use lib.ListN.{length}
+use Rattle.machine.specs.Machine.{acts}
+use Rattle.machine.specs.History.{Event}
+use Rattle.machine.specs.Lawful.{Kept, Lawful}
+use Rattle.machine.specs.Session.{Session, sound}
+
+abbrev pub Byte : ℕ → Type 0
+Byte b = b < 256
+
+-- Sound: what every state that calls can reach satisfies. Told: what the events on the way say of a state
+pub record Faithful {M S : Type 0} (σ : Session M S) (Told : List (Event ℕ S) → S → Type 0) (fresh : M → S) (Sound : S → Type 0) : Type 0 where
+  pub lawful : Lawful (σ .machine) Byte Sound
+  -- bytes are taken one by one, and an action with nothing in view sends
+  pub one-by-one : (s : S) (views takes : ℕ) → σ .machine .need s ≡ acts views takes → views ≤ 1
+  pub speaks : (s : S) (takes : ℕ) → σ .machine .need s ≡ acts 0 takes → 0 < length (σ .machine .says s [])
+  -- a fresh session is sound and has the memories as first lent
+  pub fresh-sound : (mem : M) → σ .refusal mem ≡ 0 → Sound (fresh mem)
+  pub fresh-memories : (mem : M) → σ .memories (fresh mem) ≡ mem
+  -- the lengths stay, and the record is read back
+  pub fits : (s : S) → Sound s → σ .refusal (σ .memories s) ≡ 0
+  pub reads-back : (s : S) → Sound s → σ .read (σ .write s) (σ .memories s) ≡ sound s
+  -- what the events say holds at the start, and every action keeps it
+  pub told-first : (mem : M) → Told [] (fresh mem)
+  pub told-kept : Kept (σ .machine) Byte Told

@@ -1,0 +1,22 @@
+// Sessions as deterministic machines: what a caller keeps of one between calls, and what a call reports.
+
+// What the caller keeps of a session between calls. Numbers that a phase does not use are 0.
+pub struct Record {
+    pub kind: u32,
+    pub phase: u32,
+    pub opcode: u32,
+    pub length: u32,
+    pub place: u32,
+    pub held: u32,
+    pub reason: u32,
+    pub spare: u32,
+}
+
+// What a call gives back: the number 0 and what it did, or a refusal's number, zeros and the record as it was given.
+pub struct Report {
+    pub number: u32,
+    pub standing: u32,
+    pub taken: usize,
+    pub sent: usize,
+    pub session: Record,
+}
