@@ -9,12 +9,13 @@ use lib.Dec.{leb}
 use lib.ListN.{length, take, drop, length-drop}
 use lib.Seq.{length-take-le}
 use borrow.Author.Tests.{leb-true, le-leb, lt-leb}
+use Rattle.wire.proofs.Tests.{both-true}
 use Rattle.machine.specs.Machine.{Need, acts, runs, Machine}
 use Rattle.machine.specs.Outcome.{Outcome, halt, acted, join}
 use Rattle.machine.specs.Call.{act, call}
 use Rattle.machine.specs.Uncut.{drainAt, drain, feed, uncut}
 use Rattle.machine.specs.Lawful.{Moves, takes-one, sends-one, stops, Lawful}
-use Rattle.machine.proofs.Outcomes.{join-assoc, halt-join, cond-same, both-true}
+use Rattle.machine.proofs.Outcomes.{join-assoc, halt-join, cond-same}
 
 module _ {A S : Type 0} (m : Machine A S) where
   act-run : (k : ℕ) (s : S) (inp : List A) (room : ℕ) → act m k runs s inp room ≡ halt s

@@ -5,3 +5,4 @@ pub mod Stops
 pub mod Cuts
 pub mod Sessions
 pub mod Loops
+pub mod Lines

@@ -3,7 +3,7 @@
 use Prim.Native.Nat.{ℕ, _+_}
 use native.Mathlib.Nat.{zero-add, add-zero, add-assoc}
 use mathlib.Core.Path.{_≡_, refl, ap}
-use mathlib.Core.Bool.{Bool, true, false, cond, _&&_}
+use mathlib.Core.Bool.{Bool, true, false, cond}
 use mathlib.Core.List.{append-nil, append-assoc}
 use Rattle.machine.specs.Outcome.{Outcome, halt, join}
 
@@ -21,10 +21,3 @@ module _ {S : Type 0} where
 pub cond-same : {A : Type 0} (t : Bool) (a b c : A) → (t ≡ true → a ≡ b) → cond t a c ≡ cond t b c
 cond-same true a b c h = h refl
 cond-same false a b c h = refl
-
--- both tests of a pair pass
-pub both-true : (a b : Bool) → (a && b) ≡ true → (a ≡ true) × (b ≡ true)
-both-true true true e = (refl, refl)
-both-true true false e = (refl, e)
-both-true false true e = (e, refl)
-both-true false false e = (e, e)

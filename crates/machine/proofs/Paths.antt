@@ -11,6 +11,7 @@ use lib.ListN.{length, take, drop, length-take, take-append-drop}
 use lib.Seq.{length-take-le, take-append-le, drop-append-le, drop-drop}
 use borrow.Author.Tests.{leb-true}
 use borrow.Table.Steps.{cases}
+use Rattle.wire.proofs.Tests.{both-true}
 use Rattle.machine.specs.Machine.{Need, acts, runs, Machine}
 use Rattle.machine.specs.Outcome.{Outcome, halt, acted, join}
 use Rattle.machine.specs.Call.{Call, offered, refused, act, call, calls}
@@ -18,7 +19,7 @@ use Rattle.machine.specs.Uncut.{drainAt, drain, feed, uncut}
 use Rattle.machine.specs.History.{Event, Path, here, more, Came}
 use Rattle.machine.specs.Lawful.{Every, Kept, Lawful}
 use Rattle.machine.specs.Claim.{Begins}
-use Rattle.machine.proofs.Outcomes.{join-assoc, halt-join, join-halt, both-true}
+use Rattle.machine.proofs.Outcomes.{join-assoc, halt-join, join-halt}
 use Rattle.machine.proofs.Actions.{drain-takes-none, uncut-act}
 
 -- parts of a list of good symbols are good

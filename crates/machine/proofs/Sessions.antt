@@ -17,7 +17,7 @@ use Rattle.machine.specs.Uncut.{uncut}
 use Rattle.machine.specs.History.{Event, Path, Came}
 use Rattle.machine.specs.Lawful.{Every}
 use Rattle.machine.specs.Claim.{Begins, Stopped}
-use Rattle.machine.specs.Session.{Session, Answer, Read, sound, unsound, refused, laid, accepted, readAnswer, answerOf}
+use Rattle.machine.specs.Session.{Session, Answer, refused, accepted, answerOf}
 use Rattle.machine.specs.SessionLaws.{Byte, Faithful}
 use Rattle.machine.specs.Listing.{Lent, Given, totals, answers, given, Made, none, next}
 use Rattle.machine.specs.SessionClaim as claim

@@ -11,13 +11,13 @@ use lib.ListN.{length, take, drop, length-drop, length-append}
 use lib.Seq.{length-take-le, drop-drop}
 use borrow.Author.Tests.{leb-true, leb-false, le-leb, lt-ltb, ltb-false}
 use borrow.Table.Steps.{cases}
+use Rattle.wire.proofs.Tests.{both-true}
 use Rattle.machine.specs.Machine.{Need, acts, runs, Machine}
 use Rattle.machine.specs.Outcome.{Outcome, halt, acted, join}
 use Rattle.machine.specs.Call.{standing, act, call}
 use Rattle.machine.specs.Uncut.{drainAt, drain, feed, uncut}
 use Rattle.machine.specs.Lawful.{Every, Kept, Moves, takes-one, sends-one, stops, Lawful}
 use Rattle.machine.specs.Claim.{Stopped, waits, running}
-use Rattle.machine.proofs.Outcomes.{both-true}
 use Rattle.machine.proofs.Paths.{every-take, every-drop}
 use Rattle.machine.proofs.Actions.{drain-takes-none}
 
@@ -25,7 +25,7 @@ use Rattle.machine.proofs.Actions.{drain-takes-none}
 pub not-both : (views takes : ℕ) → runs ≡ acts views takes → ⊥
 not-both views takes e = let z : _≡_ {A = ℕ} 0 1 = cc in omega arith
 
-abbrev viewsOf : Need → ℕ
+abbrev pub viewsOf : Need → ℕ
 viewsOf (acts views takes) = views
 viewsOf runs = 0
 

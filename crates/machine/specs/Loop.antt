@@ -4,10 +4,10 @@ use Prim.Native.Nat.{ℕ}
 use mathlib.Core.Path.{_≡_}
 use mathlib.Core.List.{List}
 use lib.ListN.{length, drop}
+use Rattle.memory.specs.Store.{laid}
 use Rattle.machine.specs.Machine.{Machine}
 use Rattle.machine.specs.Outcome.{Outcome}
 use Rattle.machine.specs.Call.{standing, call}
-use Rattle.machine.specs.Session.{laid}
 
 module _ {A S : Type 0} (m : Machine A S) where
   -- the call at s, with this input and a reply slice that held `old`, took and sent so much, stands at `stands` and `final`, and

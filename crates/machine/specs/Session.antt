@@ -3,9 +3,10 @@
 -- Assumes nothing.
 use Prim.Native.Nat.{ℕ}
 use mathlib.Core.Bool.{cond}
-use mathlib.Core.List.{List, _++_}
+use mathlib.Core.List.{List}
 use lib.Dec.{eqb}
 use lib.ListN.{length, drop}
+use Rattle.memory.specs.Store.{laid}
 use Rattle.machine.specs.Machine.{Machine}
 use Rattle.machine.specs.Outcome.{Outcome}
 use Rattle.machine.specs.Call.{standing, call}
@@ -38,17 +39,11 @@ abbrev pub badRecord : ℕ
 badRecord = 4
 
 -- a refused call changes nothing
-abbrev pub refused : {M : Type 0} → (number : ℕ) → Record → (reply : List ℕ) → M → Answer M
-refused number session reply mem =
-    record {
-      report = record { number = number; standing = 0; taken = 0; sent = 0; session = session };
-      reply = reply;
-      memories = mem;
-    }
+abbrev pub refusedReport : (number : ℕ) → Record → Report
+refusedReport number session = record { number = number; standing = 0; taken = 0; sent = 0; session = session }
 
--- a reply slice with bytes sent into its front
-abbrev pub laid : (sent reply : List ℕ) → List ℕ
-laid sent reply = sent ++ drop (length sent) reply
+abbrev pub refused : {M : Type 0} → (number : ℕ) → Record → (reply : List ℕ) → M → Answer M
+refused number session reply mem = record { report = refusedReport number session; reply = reply; memories = mem }
 
 module _ {M S : Type 0} (σ : Session M S) where
   -- an accepted call at s

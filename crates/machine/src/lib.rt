@@ -1,4 +1,9 @@
 // Sessions as deterministic machines: what a caller keeps of one between calls, and what a call reports.
+ghost use mathlib.Core.Path.{_≡_};
+ghost use Rattle.machine.specs.Session.{refusedReport};
+
+// The number given for an unsound record.
+pub const BAD_RECORD: u32 = 4;
 
 // What the caller keeps of a session between calls. Numbers that a phase does not use are 0.
 pub struct Record {
@@ -19,4 +24,17 @@ pub struct Report {
     pub taken: usize,
     pub sent: usize,
     pub session: Record,
+}
+
+// The report of a refused call.
+pub fn refused(number: u32, session: Record) -> Report
+    ensures { λ r. ⌜ r ≡ refusedReport number session ⌝ }
+{
+    Report {
+        number: number,
+        standing: 0,
+        taken: 0,
+        sent: 0,
+        session: session,
+    }
 }

@@ -1,3 +1,5 @@
 pub mod Numbers
 pub mod Parts
 pub mod Ranges
+pub mod Tests
+pub mod Lengths

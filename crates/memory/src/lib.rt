@@ -1,0 +1,2 @@
+// Stores to memories.
+pub mod store;

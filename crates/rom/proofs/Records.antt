@@ -1,0 +1,112 @@
+-- A record that is read stands for a sound step, and a sound step's record is read as that step.
+-- Assumes nothing.
+use Prim.Native.Nat.{ℕ, _<_, _≤_}
+use native.Mathlib.Omega.{arith}
+use mathlib.Core.Path.{_≡_, refl, sym, ap, subst, _∙_}
+use mathlib.Core.Bool.{Bool, true, false, cond}
+use lib.Dec.{eqb, leb, ltb}
+use borrow.Author.Tests.{leb-true, ltb-true, eqb-false, le-leb, lt-ltb, ne-eqb}
+use Rattle.rom.specs.declared.kind.Kind.{Kind}
+use Rattle.rom.specs.declared.kind.Kind.the-variants.{P, E}
+use Rattle.rom.specs.declared.step.Step.{Step}
+use Rattle.rom.specs.declared.step.Step.the-variants.{SendStx, TakeSoh, TakeLow, TakeHigh, TakeExtendedLow, TakeExtendedHigh, SendAck, TakeCode, SendXor, TakeAck, SendNak, Running}
+use Rattle.rom.specs.declared.record.Numbers.{Numbers}
+use Rattle.rom.specs.declared.record.Found.{Found}
+use Rattle.rom.specs.declared.record.Found.the-variants.{At}
+use Rattle.rom.specs.declared.record.Found.the-variants as found
+use Rattle.rom.specs.declared.record.Decoded.{Decoded}
+use Rattle.rom.specs.declared.record.Decoded.the-variants as decoded
+use Rattle.machine.specs.declared.Record.{Record}
+use Rattle.rom.specs.Record.{fields, fieldsOf, written, sized, coded, extended, stepIn, withKind, decodedOf}
+use Rattle.rom.specs.Sound.{SoundStep, Sized, Extends}
+
+-- what holds of both branches holds of the test
+in-cond : {A : Type 0} (Q : A → Type 0) (t : Bool) (a b : A) → (t ≡ true → Q a) → (t ≡ false → Q b) → Q (cond t a b)
+in-cond Q true a b f g = f refl
+in-cond Q false a b f g = g refl
+
+abbrev InFound : Kind → ℕ → Found → Type 0
+InFound kind size (At step) = SoundStep kind size step
+InFound kind size found.Unsound = Unit {0}
+
+abbrev InDecoded : ℕ → Decoded → Type 0
+InDecoded size (decoded.Sound kind step) = SoundStep kind size step
+InDecoded size decoded.Unsound = Unit {0}
+
+sized-in : (kind : Kind) (size n : ℕ) (s : Step) → (Sized size n → SoundStep kind size s) → InFound kind size (sized size n s)
+sized-in kind size n s f =
+    in-cond (InFound kind size) (eqb n 0) _ _ (λ e. tt)
+    (λ e. in-cond (InFound kind size) (leb n size) _ _ (λ l. f (omega (arith, eqb-false n 0 e), leb-true _ _ l)) (λ l. tt))
+
+coded-in : (kind : Kind) (size n p : ℕ) → InFound kind size (coded size n p)
+coded-in kind size n p =
+    in-cond (InFound kind size) (ltb p n) _ _ (λ e. sized-in kind size n (TakeCode n p) (λ h. (ltb-true _ _ e, h .1))) (λ e. tt)
+
+extended-in : (kind : Kind) (size : ℕ) (s : Step) → (Extends kind → SoundStep kind size s) → InFound kind size (extended kind s)
+extended-in P size s f = tt
+extended-in E size s f = f tt
+
+step-in : (kind : Kind) (size : ℕ) (n : Numbers) → InFound kind size (stepIn kind size n)
+unfolding stepIn
+step-in kind size n =
+    let Q = InFound kind size in
+    let k = n .phase in
+    in-cond Q (eqb k 0) _ _ (λ e. tt) (λ e0.
+    in-cond Q (eqb k 1) _ _ (λ e. tt) (λ e1.
+    in-cond Q (eqb k 2) _ _ (λ e. tt) (λ e2.
+    in-cond Q (eqb k 3) _ _ (λ e. tt) (λ e3.
+    in-cond Q (eqb k 4) _ _ (λ e. extended-in kind size TakeExtendedLow (λ h. h)) (λ e4.
+    in-cond Q (eqb k 5) _ _ (λ e. extended-in kind size (TakeExtendedHigh (n .held)) (λ h. h)) (λ e5.
+    in-cond Q (eqb k 6) _ _ (λ e. sized-in kind size (n .length) (SendAck (n .length)) (λ h. h)) (λ e6.
+    in-cond Q (eqb k 7) _ _ (λ e. coded-in kind size (n .length) (n .place)) (λ e7.
+    in-cond Q (eqb k 8) _ _ (λ e. sized-in kind size (n .length) (SendXor (n .length)) (λ h. h)) (λ e8.
+    in-cond Q (eqb k 9) _ _ (λ e. sized-in kind size (n .length) (TakeAck (n .length)) (λ h. h)) (λ e9.
+    in-cond Q (eqb k 10) _ _ (λ e. tt) (λ e10.
+    in-cond Q (eqb k 11) _ _ (λ e. tt) (λ e11. tt))))))))))))
+
+kind-in : (kind : Kind) (size : ℕ) (f : Found) → InFound kind size f → InDecoded size (withKind kind f)
+kind-in kind size (At step) h = h
+kind-in kind size found.Unsound h = tt
+
+-- a record that is read stands for a sound step
+pub decoded-sound : (size : ℕ) (r : Record) (kind : Kind) (s : Step) → decodedOf size r ≡ decoded.Sound kind s → SoundStep kind size s
+unfolding decodedOf
+decoded-sound size r kind s e = subst (λ (d : Decoded). InDecoded size d) e whole
+  where
+    n : Numbers
+    n = fields (r .phase) (r .length) (r .place) (r .held)
+
+    whole : InDecoded size (cond (eqb (r .kind) 0) (withKind P (stepIn P size n)) (cond (eqb (r .kind) 1) (withKind E (stepIn E size n)) decoded.Unsound))
+    whole =
+        in-cond (InDecoded size) (eqb (r .kind) 0) _ _ (λ e. kind-in P size (stepIn P size n) (step-in P size n)) (λ e.
+        in-cond (InDecoded size) (eqb (r .kind) 1) _ _ (λ e. kind-in E size (stepIn E size n) (step-in E size n)) (λ e. tt))
+
+sized-back : (size n : ℕ) (s : Step) → Sized size n → sized size n s ≡ At s
+sized-back size n s h = simp (ne-eqb n 0 (λ e. let z : ⊥ = omega (arith, h .0) in z), le-leb _ _ (h .1))
+
+extended-back : (kind : Kind) (s : Step) → Extends kind → extended kind s ≡ At s
+extended-back P s h = absurd h
+extended-back E s h = refl
+
+-- every sound step is read back from its numbers
+step-back : (kind : Kind) (size : ℕ) (s : Step) → SoundStep kind size s → stepIn kind size (fieldsOf s) ≡ At s
+unfolding stepIn
+step-back kind size SendStx h = refl
+step-back kind size TakeSoh h = refl
+step-back kind size TakeLow h = refl
+step-back kind size (TakeHigh low) h = refl
+step-back kind size TakeExtendedLow h = extended-back kind TakeExtendedLow h
+step-back kind size (TakeExtendedHigh low) h = extended-back kind (TakeExtendedHigh low) h
+step-back kind size (SendAck n) h = sized-back size n (SendAck n) h
+step-back kind size (TakeCode n p) h =
+    rw (lt-ltb p n (h .0)) (sized-back size n (TakeCode n p) (omega (arith, h .0), h .1))
+step-back kind size (SendXor n) h = sized-back size n (SendXor n) h
+step-back kind size (TakeAck n) h = sized-back size n (TakeAck n) h
+step-back kind size SendNak h = refl
+step-back kind size Running h = refl
+
+-- and from its record
+pub reads-back : (kind : Kind) (size : ℕ) (s : Step) (reason : ℕ) → SoundStep kind size s → decodedOf size (written kind s reason) ≡ decoded.Sound kind s
+unfolding decodedOf written
+reads-back P size s reason h = ap (withKind P) (step-back P size s h)
+reads-back E size s reason h = ap (withKind E) (step-back E size s h)

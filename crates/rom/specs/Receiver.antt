@@ -1,0 +1,32 @@
+-- The receiver as a machine: its kind, where the flow stands, the last reason and the RAM.
+-- Assumes nothing.
+use Prim.Native.Nat.{ℕ}
+use mathlib.Core.List.{List}
+use lib.ListN.{length}
+use Rattle.machine.specs.Machine.{Machine, line}
+use Rattle.rom.specs.declared.kind.Kind.{Kind}
+use Rattle.rom.specs.declared.step.Step.{Step}
+use Rattle.rom.specs.declared.step.Step.the-variants.{SendStx}
+use Rattle.rom.specs.Flow as flow
+use Rattle.rom.specs.Ask.{askOf, needOf, byteOf, stored}
+
+pub record State : Type 0 where
+  pub kind : Kind
+  pub step : Step
+  pub reason : ℕ
+  pub ram : List ℕ
+
+-- the flow's first step, with no reason yet
+abbrev pub fresh : Kind → (ram : List ℕ) → State
+fresh kind ram = record { kind = kind; step = SendStx; reason = 0; ram = ram }
+
+unfoldable pub took : State → (byte : ℕ) → State
+took s byte =
+    let next = flow.took (s .kind) (length (s .ram)) (s .step) (s .reason) byte in
+    record { kind = s .kind; step = next .step; reason = next .reason; ram = stored (askOf (s .step)) byte (s .ram) }
+
+abbrev pub sent : State → State
+sent s = record { kind = s .kind; step = flow.sent (s .step); reason = s .reason; ram = s .ram }
+
+abbrev pub receiver : Machine ℕ State
+receiver = line (λ s. needOf (askOf (s .step))) took (λ s. byteOf (askOf (s .step)) (s .ram)) sent (λ s. flow.due (s .step))

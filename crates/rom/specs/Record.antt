@@ -1,0 +1,94 @@
+-- The receiver's record (01, "Memories and the record", and "Numbers given back", number 4: record unsound). Numbers that a phase
+-- does not use are ignored when a record comes in, and are 0 when it goes out.
+-- Assumes nothing.
+use Prim.Native.Nat.{ℕ}
+use mathlib.Core.Bool.{cond}
+use lib.Dec.{eqb, leb, ltb}
+use Rattle.machine.specs.declared.Record.{Record}
+use Rattle.rom.specs.declared.kind.Kind.{Kind}
+use Rattle.rom.specs.declared.kind.Kind.the-variants.{P, E}
+use Rattle.rom.specs.declared.step.Step.{Step}
+use Rattle.rom.specs.declared.step.Step.the-variants.{SendStx, TakeSoh, TakeLow, TakeHigh, TakeExtendedLow, TakeExtendedHigh, SendAck, TakeCode, SendXor, TakeAck, SendNak, Running}
+use Rattle.rom.specs.declared.record.Numbers.{Numbers}
+use Rattle.rom.specs.declared.record.Found.{Found}
+use Rattle.rom.specs.declared.record.Found.the-variants.{At}
+use Rattle.rom.specs.declared.record.Found.the-variants as found
+use Rattle.rom.specs.declared.record.Decoded.{Decoded}
+use Rattle.rom.specs.declared.record.Decoded.the-variants.{Sound, Unsound}
+
+abbrev pub kindNumber : Kind → ℕ
+kindNumber P = 0
+kindNumber E = 1
+
+abbrev pub fields : (phase length place held : ℕ) → Numbers
+fields phase length place held = record { phase = phase; length = length; place = place; held = held }
+
+-- a step in numbers; `held` is the low byte of a length
+abbrev pub fieldsOf : Step → Numbers
+fieldsOf SendStx = fields 0 0 0 0
+fieldsOf TakeSoh = fields 1 0 0 0
+fieldsOf TakeLow = fields 2 0 0 0
+fieldsOf (TakeHigh low) = fields 3 0 0 low
+fieldsOf TakeExtendedLow = fields 4 0 0 0
+fieldsOf (TakeExtendedHigh low) = fields 5 0 0 low
+fieldsOf (SendAck length) = fields 6 length 0 0
+fieldsOf (TakeCode length place) = fields 7 length place 0
+fieldsOf (SendXor length) = fields 8 length 0 0
+fieldsOf (TakeAck length) = fields 9 length 0 0
+fieldsOf SendNak = fields 10 0 0 0
+fieldsOf Running = fields 11 0 0 0
+
+-- the record of a step
+unfoldable pub written : Kind → Step → (reason : ℕ) → Record
+written kind step reason =
+    record {
+      kind = kindNumber kind;
+      phase = fieldsOf step .phase;
+      opcode = 0;
+      length = fieldsOf step .length;
+      place = fieldsOf step .place;
+      held = fieldsOf step .held;
+      reason = reason;
+      spare = 0;
+    }
+
+-- with code of 1 byte or more, and no more than a RAM of `size` bytes
+abbrev pub sized : (size length : ℕ) → Step → Found
+sized size length step = cond (eqb length 0) found.Unsound (cond (leb length size) (At step) found.Unsound)
+
+-- the place is that of the next code byte, so it is below the length
+abbrev pub coded : (size length place : ℕ) → Found
+coded size length place = cond (ltb place length) (sized size length (TakeCode length place)) found.Unsound
+
+-- kind P has no extended length
+abbrev pub extended : Kind → Step → Found
+extended P step = found.Unsound
+extended E step = At step
+
+unfoldable pub stepIn : Kind → (size : ℕ) → Numbers → Found
+stepIn kind size n =
+    cond (eqb (n .phase) 0) (At SendStx)
+    (cond (eqb (n .phase) 1) (At TakeSoh)
+    (cond (eqb (n .phase) 2) (At TakeLow)
+    (cond (eqb (n .phase) 3) (At (TakeHigh (n .held)))
+    (cond (eqb (n .phase) 4) (extended kind TakeExtendedLow)
+    (cond (eqb (n .phase) 5) (extended kind (TakeExtendedHigh (n .held)))
+    (cond (eqb (n .phase) 6) (sized size (n .length) (SendAck (n .length)))
+    (cond (eqb (n .phase) 7) (coded size (n .length) (n .place))
+    (cond (eqb (n .phase) 8) (sized size (n .length) (SendXor (n .length)))
+    (cond (eqb (n .phase) 9) (sized size (n .length) (TakeAck (n .length)))
+    (cond (eqb (n .phase) 10) (At SendNak)
+    (cond (eqb (n .phase) 11) (At Running)
+    found.Unsound)))))))))))
+
+abbrev pub withKind : Kind → Found → Decoded
+withKind kind (At step) = Sound kind step
+withKind kind found.Unsound = Unsound
+
+-- what a record stands for
+unfoldable pub decodedOf : (size : ℕ) → Record → Decoded
+decodedOf size r =
+    let n = fields (r .phase) (r .length) (r .place) (r .held) in
+    cond (eqb (r .kind) 0) (withKind P (stepIn P size n))
+    (cond (eqb (r .kind) 1) (withKind E (stepIn E size n))
+    Unsound)

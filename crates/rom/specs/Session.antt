@@ -1,0 +1,42 @@
+-- The receiver's session: a call on a record, input, reply and RAM (01, "Memories and the record" and "Numbers given back": call
+-- refusals 2 and 4).
+-- Assumes nothing.
+use Prim.Native.Nat.{ℕ}
+use mathlib.Core.Bool.{cond}
+use mathlib.Core.List.{List}
+use lib.ListN.{length}
+use Rattle.wire.specs.Length.{isRamLength, badRam}
+use Rattle.machine.specs.Session.{Read, sound, unsound, Session, Answer}
+use Rattle.machine.specs.declared.Record.{Record}
+use Rattle.machine.specs.declared.Report.{Report}
+use Rattle.rom.specs.declared.kind.Kind.{Kind}
+use Rattle.rom.specs.declared.step.Step.{Step}
+use Rattle.rom.specs.declared.record.Decoded.{Decoded}
+use Rattle.rom.specs.declared.record.Decoded.the-variants.{Sound, Unsound}
+use Rattle.rom.specs.Receiver.{State, receiver}
+use Rattle.rom.specs.Record.{written, decodedOf}
+
+-- a fresh record with this kind number, known or not
+abbrev pub freshRecord : (kind : ℕ) → Record
+freshRecord kind = record { kind = kind; phase = 0; opcode = 0; length = 0; place = 0; held = 0; reason = 0; spare = 0 }
+
+abbrev pub state : Kind → Step → (reason : ℕ) (ram : List ℕ) → State
+state kind step reason ram = record { kind = kind; step = step; reason = reason; ram = ram }
+
+abbrev pub readOf : Decoded → (reason : ℕ) (ram : List ℕ) → Read State
+readOf (Sound kind step) reason ram = sound (state kind step reason ram)
+readOf Unsound reason ram = unsound
+
+abbrev pub rom : Session (List ℕ) State
+rom =
+    record {
+      machine = receiver;
+      refusal = λ ram. cond (isRamLength (length ram)) 0 badRam;
+      read = λ r ram. readOf (decodedOf (length ram) r) (r .reason) ram;
+      write = λ s. written (s .kind) (s .step) (s .reason);
+      memories = λ s. s .ram;
+    }
+
+-- what a call gives back, with the reply and the RAM after it
+abbrev pub answer : Report → (reply ram : List ℕ) → Answer (List ℕ)
+answer report reply ram = record { report = report; reply = reply; memories = ram }

@@ -1,0 +1,161 @@
+// The receiver's record: a step in numbers, and back.
+ghost use mathlib.Core.Path.{_≡_};
+ghost use Rattle.rom.specs.Record.{kindNumber, fieldsOf, written, sized, extended, coded, stepIn, withKind, decodedOf};
+use crate::kind::Kind;
+use crate::step::Step;
+use machine::Record;
+
+// A step in numbers. `held` is the low byte of a length.
+pub struct Numbers {
+    pub phase: u32,
+    pub length: u32,
+    pub place: u32,
+    pub held: u32,
+}
+
+// The step that numbers stand for.
+pub enum Found {
+    At(Step),
+    Unsound,
+}
+
+// The kind and step that a record stands for.
+pub enum Decoded {
+    Sound(Kind, Step),
+    Unsound,
+}
+
+fn fields(phase: u32, length: u32, place: u32, held: u32) -> Numbers
+    ensures { λ r. ⌜ r ≡ record { phase = phase; length = length; place = place; held = held } ⌝ }
+{
+    Numbers {
+        phase: phase,
+        length: length,
+        place: place,
+        held: held,
+    }
+}
+
+fn fields_of(step: Step) -> Numbers
+    ensures { λ r. ⌜ r ≡ fieldsOf step ⌝ }
+{
+    match step {
+        Step::SendStx => fields(0, 0, 0, 0),
+        Step::TakeSoh => fields(1, 0, 0, 0),
+        Step::TakeLow => fields(2, 0, 0, 0),
+        Step::TakeHigh(low) => fields(3, 0, 0, low),
+        Step::TakeExtendedLow => fields(4, 0, 0, 0),
+        Step::TakeExtendedHigh(low) => fields(5, 0, 0, low),
+        Step::SendAck(length) => fields(6, length, 0, 0),
+        Step::TakeCode(length, place) => fields(7, length, place, 0),
+        Step::SendXor(length) => fields(8, length, 0, 0),
+        Step::TakeAck(length) => fields(9, length, 0, 0),
+        Step::SendNak => fields(10, 0, 0, 0),
+        Step::Running => fields(11, 0, 0, 0),
+    }
+}
+
+fn kind_number(kind: Kind) -> u32
+    ensures { λ r. ⌜ r ≡ kindNumber kind ⌝ }
+{
+    match kind {
+        Kind::P => 0,
+        Kind::E => 1,
+    }
+}
+
+// The record of a step.
+pub fn encode(kind: Kind, step: Step, reason: u32) -> Record
+    ensures { λ r. ⌜ r ≡ written kind step reason ⌝ }
+{
+    let numbers = fields_of(step);
+    Record {
+        kind: kind_number(kind),
+        phase: numbers.phase,
+        opcode: 0,
+        length: numbers.length,
+        place: numbers.place,
+        held: numbers.held,
+        reason: reason,
+        spare: 0,
+    }
+}
+
+// A step whose code has 1 byte or more, and no more than the RAM.
+fn sized(size: u32, length: u32, step: Step) -> Found
+    ensures { λ r. ⌜ r ≡ sized size length step ⌝ }
+{
+    if length == 0 {
+        return Found::Unsound;
+    }
+    if length <= size {
+        Found::At(step)
+    } else {
+        Found::Unsound
+    }
+}
+
+// A step that takes code: its place is below the length.
+fn coded(size: u32, length: u32, place: u32) -> Found
+    ensures { λ r. ⌜ r ≡ coded size length place ⌝ }
+{
+    if place < length {
+        sized(size, length, Step::TakeCode(length, place))
+    } else {
+        Found::Unsound
+    }
+}
+
+// A step that only kind E has.
+fn extended(kind: Kind, step: Step) -> Found
+    ensures { λ r. ⌜ r ≡ extended kind step ⌝ }
+{
+    match kind {
+        Kind::P => Found::Unsound,
+        Kind::E => Found::At(step),
+    }
+}
+
+fn step_in(kind: Kind, size: u32, numbers: Numbers) -> Found
+    ensures { λ r. ⌜ r ≡ stepIn kind size numbers ⌝ }
+{
+    let phase = numbers.phase;
+    let length = numbers.length;
+    match phase {
+        0 => Found::At(Step::SendStx),
+        1 => Found::At(Step::TakeSoh),
+        2 => Found::At(Step::TakeLow),
+        3 => Found::At(Step::TakeHigh(numbers.held)),
+        4 => extended(kind, Step::TakeExtendedLow),
+        5 => extended(kind, Step::TakeExtendedHigh(numbers.held)),
+        6 => sized(size, length, Step::SendAck(length)),
+        7 => coded(size, length, numbers.place),
+        8 => sized(size, length, Step::SendXor(length)),
+        9 => sized(size, length, Step::TakeAck(length)),
+        10 => Found::At(Step::SendNak),
+        11 => Found::At(Step::Running),
+        _ => Found::Unsound,
+    }
+}
+
+fn with_kind(kind: Kind, found: Found) -> Decoded
+    ensures { λ r. ⌜ r ≡ withKind kind found ⌝ }
+{
+    match found {
+        Found::At(step) => Decoded::Sound(kind, step),
+        Found::Unsound => Decoded::Unsound,
+    }
+}
+
+// What a record stands for, with a RAM of so many bytes.
+pub fn decode(size: u32, session: Record) -> Decoded
+    ensures { λ r. ⌜ r ≡ decodedOf size session ⌝ }
+{
+    let numbers = fields(session.phase, session.length, session.place, session.held);
+    let kind = session.kind;
+    match kind {
+        0 => with_kind(Kind::P, step_in(Kind::P, size, numbers)),
+        1 => with_kind(Kind::E, step_in(Kind::E, size, numbers)),
+        _ => Decoded::Unsound,
+    }
+}

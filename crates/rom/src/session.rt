@@ -1,0 +1,137 @@
+// The receiver's session: the loop over its actions, and the call.
+ghost use mathlib.Core.Path.{_≡_};
+ghost use Rattle.machine.specs.Loop.{Acted};
+ghost use Rattle.machine.specs.Session.{answerOf};
+ghost use Rattle.rom.specs.Receiver.{receiver};
+ghost use Rattle.rom.specs.Session.{freshRecord, state, rom, answer};
+ghost use Rattle.rom.specs.Sound.{Ready};
+use crate::flow::ask_of;
+use crate::flow::code_step;
+use crate::flow::sent;
+use crate::flow::took;
+use crate::kind::Kind;
+use crate::record::Decoded;
+use crate::record::decode;
+use crate::record::encode;
+use crate::step::Ask;
+use crate::step::Step;
+use crate::store::byte_of;
+use crate::store::take_code;
+use machine::BAD_RECORD;
+use machine::Record;
+use machine::Report;
+use machine::refused;
+use wire::length::BAD_RAM;
+use wire::length::is_ram_length;
+
+// A receiver's session, by the number of its kind: 0 is P, 1 is E.
+pub struct Receiver {
+    pub kind: u32,
+}
+
+impl Receiver {
+    // A fresh record; a call refuses it where the kind is unknown.
+    pub fn fresh(kind: u32) -> Record
+        ensures { λ r. ⌜ r ≡ freshRecord kind ⌝ }
+    {
+        Record {
+            kind: kind,
+            phase: 0,
+            opcode: 0,
+            length: 0,
+            place: 0,
+            held: 0,
+            reason: 0,
+            spare: 0,
+        }
+    }
+}
+
+// Where the actions stopped: waiting for a byte (1) or for room (2), or code runs (3).
+struct Stop {
+    step: Step,
+    reason: u32,
+    taken: usize,
+    sent: usize,
+    standing: u32,
+}
+
+fn stopped(step: Step, reason: u32, taken: usize, sent: usize, standing: u32) -> Stop
+    ensures { λ r. ⌜ r ≡ record { step = step; reason = reason; taken = taken; sent = sent; standing = standing } ⌝ }
+{
+    Stop {
+        step: step,
+        reason: reason,
+        taken: taken,
+        sent: sent,
+        standing: standing,
+    }
+}
+
+// Acts until a byte or room is missing, or code runs.
+fn act(kind: Kind, first: Step, reason: u32, input: &[u8], reply: &mut [u8], ram: &mut [u8]) -> Stop
+    requires { ⌜ Ready kind first (now ram) ⌝ }
+    ensures { λ r. ⌜ Acted receiver (state kind first reason (now (ram .entry))) (now (input .entry)) (now (reply .entry)) (r .taken) (r .sent) (r .standing) (state kind (r .step) (r .reason) (now (ram .exit))) (now (reply .exit)) ⌝ }
+{
+    let size = ram.len() as u32;
+    let mut step = first;
+    let mut last = reason;
+    let mut i: usize = 0;
+    let mut j: usize = 0;
+    loop {
+        match ask_of(step) {
+            Ask::TakeByte => {
+                if i >= input.len() {
+                    return stopped(step, last, i, j, 1);
+                }
+                let after = took(kind, size, step, last, input[i]);
+                step = after.step;
+                last = after.reason;
+                i += 1;
+            }
+            Ask::TakeCode(total, place) => {
+                if i >= input.len() {
+                    return stopped(step, last, i, j, 1);
+                }
+                let count = take_code(total, place, input, i, ram);
+                step = code_step(total, place + count);
+                i += count as usize;
+            }
+            Ask::Send(word) => {
+                if j >= reply.len() {
+                    return stopped(step, last, i, j, 2);
+                }
+                reply[j] = byte_of(word, ram);
+                step = sent(step);
+                j += 1;
+            }
+            Ask::Halt => {
+                return stopped(step, last, i, j, 3);
+            }
+        }
+    }
+}
+
+// A call to the session.
+pub fn call(session: Record, input: &[u8], reply: &mut [u8], ram: &mut [u8]) -> Report
+    ensures { λ r. ⌜ answer r (now (reply .exit)) (now (ram .exit)) ≡ answerOf rom session (now (ram .entry)) (now (input .entry)) (now (reply .entry)) ⌝ }
+{
+    let size = ram.len();
+    if !is_ram_length(size) {
+        return refused(BAD_RAM, session);
+    }
+    match decode(size as u32, session) {
+        Decoded::Sound(kind, step) => {
+            let end = act(kind, step, session.reason, input, reply, ram);
+            let last = end.step;
+            Report {
+                number: 0,
+                standing: end.standing,
+                taken: end.taken,
+                sent: end.sent,
+                session: encode(kind, last, end.reason),
+            }
+        }
+        Decoded::Unsound => refused(BAD_RECORD, session),
+    }
+}
