@@ -1,4 +1,4 @@
--- Laws of stores: one more byte of a store, and a store into a part of a memory.
+-- Laws of stores: a turn of the loop, bytes laid into a part of a memory, and bytes laid behind others.
 -- Assumes nothing.
 use Prim.Native.Nat.{ℕ, _+_, _-_, _<_, _≤_}
 use mathlib.Core.Path.{_≡_, _∙_}

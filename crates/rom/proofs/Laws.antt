@@ -1,18 +1,16 @@
 -- The receiver is a lawful machine, with its sound states and with any.
 -- Assumes nothing.
-use Prim.Native.Nat.{ℕ, suc, _<_}
-use mathlib.Core.Path.{_≡_, refl, sym, _∙_}
+use Prim.Native.Nat.{ℕ}
+use mathlib.Core.Path.{_≡_, refl}
 use mathlib.Core.List.{List}
 use lib.ListN.{length, length-set}
-use Rattle.machine.specs.Machine as machine
 use Rattle.machine.specs.Lawful.{Lawful}
 use Rattle.machine.specs.SessionLaws.{Byte}
 use Rattle.machine.proofs.Lines.{Line, takes, sends, ends, line-lawful}
 use Rattle.rom.specs.declared.step.Ask.{Ask}
 use Rattle.rom.specs.declared.step.Ask.the-variants.{TakeByte, TakeCode, Send, Halt}
-use Rattle.rom.specs.Ask.{askOf, needOf, byteOf, stored}
-use Rattle.rom.specs.Flow as flow
-use Rattle.rom.specs.Receiver.{State, took, sent, receiver}
+use Rattle.rom.specs.Ask.{askOf, needOf, stored}
+use Rattle.rom.specs.Receiver.{State, need, took, byte, sent, due, receiver}
 use Rattle.rom.specs.Sound.{Sound}
 use Rattle.rom.proofs.Steps.{sound-took, sound-sent, due-sent}
 
@@ -22,7 +20,7 @@ ask-line (TakeCode length place) = takes refl
 ask-line (Send word) = sends refl
 ask-line Halt = ends refl
 
-pub is-line : (s : State) → Line (needOf (askOf (s .step)))
+pub is-line : (s : State) → Line (need s)
 is-line s = ask-line (askOf (s .step))
 
 -- a store keeps the RAM's length
@@ -46,8 +44,8 @@ sent-sound s g = record { fits = g .fits; step-sound = sound-sent (s .kind) (len
 
 pub lawful : Lawful receiver Byte Sound
 lawful =
-    line-lawful _ _ _ _ _ is-line Byte Sound (λ s b e w g. took-sound s b g) (λ s e g. sent-sound s g) (λ s g e. due-sent (s .step) e)
+    line-lawful need took byte sent due is-line Byte Sound (λ s b e w g. took-sound s b g) (λ s e g. sent-sound s g) (λ s g e. due-sent (s .step) e)
 
 -- any state at all
 pub lawful-any : Lawful receiver (λ (b : ℕ). Unit {0}) (λ (s : State). Unit {0})
-lawful-any = line-lawful _ _ _ _ _ is-line (λ (b : ℕ). Unit {0}) (λ (s : State). Unit {0}) (λ s b e w g. tt) (λ s e g. tt) (λ s g e. due-sent (s .step) e)
+lawful-any = line-lawful need took byte sent due is-line (λ (b : ℕ). Unit {0}) (λ (s : State). Unit {0}) (λ s b e w g. tt) (λ s e g. tt) (λ s g e. due-sent (s .step) e)

@@ -4,3 +4,4 @@ pub mod Laws
 pub mod Turns
 pub mod Records
 pub mod Calls
+pub mod Claims

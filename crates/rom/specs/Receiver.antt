@@ -3,7 +3,7 @@
 use Prim.Native.Nat.{ℕ}
 use mathlib.Core.List.{List}
 use lib.ListN.{length}
-use Rattle.machine.specs.Machine.{Machine, line}
+use Rattle.machine.specs.Machine.{Need, Machine, line}
 use Rattle.rom.specs.declared.kind.Kind.{Kind}
 use Rattle.rom.specs.declared.step.Step.{Step}
 use Rattle.rom.specs.declared.step.Step.the-variants.{SendStx}
@@ -20,13 +20,22 @@ pub record State : Type 0 where
 abbrev pub fresh : Kind → (ram : List ℕ) → State
 fresh kind ram = record { kind = kind; step = SendStx; reason = 0; ram = ram }
 
+abbrev pub need : State → Need
+need s = needOf (askOf (s .step))
+
 unfoldable pub took : State → (byte : ℕ) → State
 took s byte =
     let next = flow.took (s .kind) (length (s .ram)) (s .step) (s .reason) byte in
     record { kind = s .kind; step = next .step; reason = next .reason; ram = stored (askOf (s .step)) byte (s .ram) }
 
+abbrev pub byte : State → ℕ
+byte s = byteOf (askOf (s .step)) (s .ram)
+
 abbrev pub sent : State → State
 sent s = record { kind = s .kind; step = flow.sent (s .step); reason = s .reason; ram = s .ram }
 
+abbrev pub due : State → ℕ
+due s = flow.due (s .step)
+
 abbrev pub receiver : Machine ℕ State
-receiver = line (λ s. needOf (askOf (s .step))) took (λ s. byteOf (askOf (s .step)) (s .ram)) sent (λ s. flow.due (s .step))
+receiver = line need took byte sent due

@@ -1,3 +1,12 @@
+-- `rom::session::call`: the refusals in order, and the loop's answer written out.
+-- Assumes nothing.
+use Prim.Native.Nat.{_≤_}
+use mathlib.Core.Path.{refl, sym, _∙_}
+use native.Mathlib.Omega.{arith}
+use borrow.Author.Tests.{not-true, not-false}
+use Rattle.wire.proofs.Lengths.{ram-bound}
+use Rattle.rom.proofs.Records.{decoded-sound}
+use Rattle.rom.proofs.Calls.{bad-length, bad-record, good}
 use borrow.Author.Needs.{needs}
 use Rattle.rom.proofs.session.call.Statement.{statement}
 use Rattle.rom.proofs.session.call.Tie as tie
@@ -19,11 +28,12 @@ refused-requires c κs = search needs
 
 -- src/session.rt:121:9
 returns : tie.Need-returns
-returns c = ?
+returns c =
+    bad-length _ _ _ _ _ (sym (c .before .before .is-ram-length .ensures) ∙ not-true _ (c .before .if1 .taken)) (c .refused .ensures)
 
 -- src/session.rt:123:18
 cast-decode : tie.Need-cast-decode
-cast-decode c = ?
+cast-decode c = omega (arith, ram-bound _ (sym (c .before .is-ram-length .ensures) ∙ not-false _ (c .if1 .left)))
 
 -- src/session.rt:123:11
 decode-requires : tie.Need-decode-requires
@@ -35,7 +45,11 @@ enum-known-kind c = search needs
 
 -- src/session.rt:125:17
 act-requires : tie.Need-act-requires
-act-requires c κs = ?
+act-requires c κs =
+    record {
+      fits = sym (c .before .before .before .before .before .before .before .is-ram-length .ensures) ∙ not-false _ (c .before .before .before .before .before .before .if1 .left);
+      step-sound = decoded-sound _ (c .before .before .before .before .before .before .before .before .before .before .before .args .session) _ _ (sym (c .before .before .before .before .before .decode .ensures) ∙ c .before .before .before .kind .given .1);
+    }
 
 -- src/session.rt:132:26
 encode-requires : tie.Need-encode-requires
@@ -59,11 +73,14 @@ same-length-2 c = search needs
 
 -- src/session.rt:116:1
 returns-2 : tie.Need-returns-2
-returns-2 c = ?
+returns-2 c =
+    good _ _ _ _ _ (sym (c .before .before .before .before .before .before .before .before .before .before .before .before .before .is-ram-length .ensures) ∙ not-false _ (c .before .before .before .before .before .before .before .before .before .before .before .before .if1 .left)) _ _ (sym (c .before .before .before .before .before .before .before .before .before .before .before .decode .ensures) ∙ c .before .before .before .before .before .before .before .before .before .kind .given .1)
+    _ _ _ _ _ _ _ (c .before .before .before .before .before .act .ensures) (rw (c .encode .ensures) refl)
 
 -- src/session.rt:116:1
 returns-3 : tie.Need-returns-3
-returns-3 c = ?
+returns-3 c =
+    bad-record _ _ _ _ _ (sym (c .before .before .before .before .before .is-ram-length .ensures) ∙ not-false _ (c .before .before .before .before .if1 .left)) (sym (c .before .before .before .decode .ensures) ∙ c .before .enum-told .given .1) (c .refused2 .ensures)
 
 pub call-spec : {M : Type 1} → statement M
 call-spec =
