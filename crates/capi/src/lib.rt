@@ -1,10 +1,22 @@
-// The functions that C calls: numbers by value, byte slices as pointer and length, results by value.
+// The functions that C calls: numbers by value, byte slices as pointer and length, a record as eight words, results by value.
 ghost use mathlib.Core.Path.{_≡_};
 ghost use Rattle.version.specs.Rank.{rankOf};
 ghost use Rattle.version.specs.Order.{orderOf};
 ghost use Rattle.slot.specs.Slot.{selectOf};
 ghost use Rattle.offer.specs.Offer.{offerOf};
+ghost use Rattle.machine.specs.Session.{answerOf};
+ghost use Rattle.machine.specs.Words.{recordOf, wordsOf};
+ghost use Rattle.rom.specs.Session.{freshRecord, rom};
+ghost use Rattle.rom.specs.declared.kind.Kind.the-variants.{P, E};
+ghost use Rattle.frame.specs.Frame.{written, framedOf};
+ghost use Rattle.capi.specs.Called.{calledOf, given, givenOf};
+use frame::Framed;
+use machine::Report;
+use machine::words::put;
+use machine::words::record_of;
 use offer::Offered;
+use rom::kind::Kind;
+use rom::session::Receiver;
 use slot::Selected;
 use version::order::Ordered;
 use version::rank::Ranked;
@@ -39,4 +51,67 @@ pub extern "C" fn und_offer(installed: &[u8], candidate: &[u8]) -> Offered
     ensures { λ r. ⌜ r ≡ offerOf (now (installed .entry)) (now (candidate .entry)) ⌝ }
 {
     offer::judge(installed, candidate)
+}
+
+// A session call's report without its record, which C has in its eight words.
+#[repr(C)]
+pub struct Called {
+    pub number: u32,
+    pub standing: u32,
+    pub taken: usize,
+    pub sent: usize,
+}
+
+fn called_of(report: Report) -> Called
+    ensures { λ r. ⌜ r ≡ calledOf report ⌝ }
+{
+    Called {
+        number: report.number,
+        standing: report.standing,
+        taken: report.taken,
+        sent: report.sent,
+    }
+}
+
+// A fresh record of a receiver: kind 0 is P, 1 is E; any other is refused by the first call.
+#[no_mangle]
+pub extern "C" fn und_rom_fresh(kind: u32, words: &mut [u32; 8])
+    ensures { λ _. ⌜ now (words .exit) ≡ wordsOf (freshRecord kind) ⌝ }
+{
+    put(Receiver::fresh(kind), words);
+}
+
+// A call to a receiver. A refused call doesn't write the record.
+#[no_mangle]
+pub extern "C" fn und_rom_call(
+    words: &mut [u32; 8],
+    input: &[u8],
+    reply: &mut [u8],
+    ram: &mut [u8],
+) -> Called
+    ensures { λ r. ⌜ given r (now (words .exit)) (now (reply .exit)) (now (ram .exit)) ≡ givenOf (answerOf rom (recordOf (now (words .entry))) (now (ram .entry)) (now (input .entry)) (now (reply .entry))) ⌝ }
+{
+    let old = *words;
+    let report = rom::session::call(record_of(old), input, reply, ram);
+    if report.number != 0 {
+        return called_of(report);
+    }
+    put(report.session, words);
+    called_of(report)
+}
+
+// The boot frame of a code for a receiver of kind P.
+#[no_mangle]
+pub extern "C" fn und_frame_p(code: &[u8], out: &mut [u8]) -> Framed
+    ensures { λ r. ⌜ written r (now (out .exit)) ≡ framedOf P (now (code .entry)) (now (out .entry)) ⌝ }
+{
+    frame::frame(Kind::P, code, out)
+}
+
+// The boot frame of a code for a receiver of kind E.
+#[no_mangle]
+pub extern "C" fn und_frame_e(code: &[u8], out: &mut [u8]) -> Framed
+    ensures { λ r. ⌜ written r (now (out .exit)) ≡ framedOf E (now (code .entry)) (now (out .entry)) ⌝ }
+{
+    frame::frame(Kind::E, code, out)
 }

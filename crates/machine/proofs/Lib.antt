@@ -6,3 +6,4 @@ pub mod Cuts
 pub mod Sessions
 pub mod Loops
 pub mod Lines
+pub mod Refusals

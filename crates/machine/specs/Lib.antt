@@ -5,6 +5,7 @@ pub mod Uncut
 pub mod History
 pub mod Lawful
 pub mod Claim
+pub mod Words
 pub mod Session
 pub mod Loop
 pub mod Listing

@@ -2,6 +2,8 @@
 ghost use mathlib.Core.Path.{_≡_};
 ghost use Rattle.machine.specs.Session.{refusedReport};
 
+pub mod words;
+
 // The number given for an unsound record.
 pub const BAD_RECORD: u32 = 4;
 

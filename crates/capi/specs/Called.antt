@@ -1,0 +1,24 @@
+-- What C gets of a session call: the report by value, the record in its eight words, and the lent slices.
+-- Assumes nothing.
+use Prim.Native.Nat.{ℕ}
+use mathlib.Core.List.{List}
+use Rattle.machine.specs.Session.{Answer}
+use Rattle.machine.specs.Words.{wordsOf}
+use Rattle.machine.specs.declared.Report.{Report}
+use Rattle.capi.specs.declared.Called.{Called}
+
+abbrev pub calledOf : Report → Called
+calledOf r = record { number = r .number; standing = r .standing; taken = r .taken; sent = r .sent }
+
+-- over memories M
+pub record Given (M : Type 0) : Type 0 where
+  pub called : Called
+  pub words : List ℕ
+  pub reply : List ℕ
+  pub memories : M
+
+abbrev pub given : {M : Type 0} → Called → (words reply : List ℕ) → M → Given M
+given called words reply mem = record { called = called; words = words; reply = reply; memories = mem }
+
+abbrev pub givenOf : {M : Type 0} → Answer M → Given M
+givenOf a = given (calledOf (a .report)) (wordsOf (a .report .session)) (a .reply) (a .memories)
