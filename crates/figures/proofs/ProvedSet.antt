@@ -6,8 +6,11 @@ use Rattle.crc.specs.Crc.{crcOf}
 use Rattle.version.specs.Text.{isNumber, wellFormed}
 use Rattle.version.specs.Rank.{rankOf}
 use Rattle.version.specs.Order.{comparedFields, orderOf}
+use Rattle.machine.specs.Uncut.{drain, feed, uncut}
+use Rattle.rom.specs.Ask.{xorOf}
+use Rattle.rom.specs.Receiver.{took}
 use Rattle.figures.specs.ProvedSet.{AllHold, provedSet}
 
 pub proved-set : AllHold provedSet
-unfolding leaving moved placed afterBit afterBits afterByte after crcOf isNumber wellFormed rankOf comparedFields orderOf
-proved-set = (refl, (refl, (refl, (refl, (refl, (refl, (refl, (refl, (refl, (refl, tt))))))))))
+unfolding leaving moved placed afterBit afterBits afterByte after crcOf isNumber wellFormed rankOf comparedFields orderOf drain feed uncut xorOf took
+proved-set = (refl, (refl, (refl, (refl, (refl, (refl, (refl, (refl, (refl, (refl, (refl, (refl, (refl, tt)))))))))))))
