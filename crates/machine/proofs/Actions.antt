@@ -3,7 +3,7 @@
 use Prim.Native.Nat.{ℕ, zero, suc, _+_, _-_, _≤_, _<_}
 use native.Mathlib.Omega.{arith}
 use mathlib.Core.Path.{_≡_, refl, sym, ap, _∙_}
-use mathlib.Core.Bool.{true, false, cond, _&&_, and-false}
+use mathlib.Core.Bool.{true, _&&_, and-false}
 use mathlib.Core.List.{List, []}
 use lib.Dec.{leb}
 use lib.ListN.{length, take, drop, length-drop}
@@ -11,7 +11,7 @@ use lib.Seq.{length-take-le}
 use borrow.Author.Tests.{leb-true, le-leb, lt-leb}
 use Rattle.wire.proofs.Tests.{both-true}
 use Rattle.machine.specs.Machine.{Need, acts, runs, Machine}
-use Rattle.machine.specs.Outcome.{Outcome, halt, acted, join}
+use Rattle.machine.specs.Outcome.{halt, acted, join}
 use Rattle.machine.specs.Call.{act, call}
 use Rattle.machine.specs.Uncut.{drainAt, drain, feed, uncut}
 use Rattle.machine.specs.Lawful.{Moves, takes-one, sends-one, stops, Lawful}

@@ -1,18 +1,17 @@
 -- Cuts and rooms never change the outcome: the claim, over any lawful machine.
 -- Assumes nothing.
-use Prim.Native.Nat.{ℕ, suc, _+_, _≤_, _<_}
+use Prim.Native.Nat.{ℕ, _+_, _≤_, _<_}
 use native.Mathlib.Omega.{arith}
 use mathlib.Core.Path.{_≡_, refl, sym, ap, _∙_}
-use mathlib.Core.Bool.{cond}
-use mathlib.Core.List.{List, [], _++_}
+use mathlib.Core.List.{List, _++_}
 use lib.Dec.{ltb}
 use lib.ListN.{length, take, drop, length-append, take-append-drop}
 use lib.Seq.{drop-drop}
 use borrow.Author.Tests.{ltb-true}
 use borrow.Table.Steps.{cases}
 use Rattle.machine.specs.Machine.{Need, acts, runs, Machine}
-use Rattle.machine.specs.Outcome.{Outcome, halt, acted, join}
-use Rattle.machine.specs.Call.{Call, standing, standingOf, call, calls}
+use Rattle.machine.specs.Outcome.{Outcome, halt, join}
+use Rattle.machine.specs.Call.{call, calls}
 use Rattle.machine.specs.Uncut.{uncut}
 use Rattle.machine.specs.History.{Came}
 use Rattle.machine.specs.Lawful.{Every, Lawful}

@@ -1,11 +1,11 @@
 -- A line's machine is lawful if its states stay sound and its bound on sends is exact; the rest follows from its needs.
 -- Assumes nothing.
-use Prim.Native.Nat.{ℕ, zero, suc, _≤_, _<_}
+use Prim.Native.Nat.{ℕ, suc, _≤_, _<_}
 use native.Mathlib.Omega.{arith}
-use mathlib.Core.Path.{_≡_, refl, sym, ap, subst, _∙_}
+use mathlib.Core.Path.{_≡_, sym, ap, _∙_}
 use mathlib.Core.List.{List, [], _∷_}
 use lib.ListN.{length}
-use Rattle.machine.specs.Machine.{Need, acts, runs, Machine, line, lineAfter, lineSays}
+use Rattle.machine.specs.Machine.{Need, acts, runs, Machine, line}
 use Rattle.machine.specs.Machine as machine
 use Rattle.machine.specs.History.{Event}
 use Rattle.machine.specs.Lawful.{Every, Moves, takes-one, sends-one, Kept, Lawful}

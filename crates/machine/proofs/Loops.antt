@@ -1,19 +1,17 @@
 -- A call, action by action, as a program's loop makes it.
 -- Assumes nothing.
-use Prim.Native.Nat.{ℕ, suc, _+_, _-_, _≤_, _<_}
+use Prim.Native.Nat.{ℕ, _+_, _-_, _≤_, _<_}
 use native.Mathlib.Omega.{arith}
-use native.Mathlib.Nat.{zero-add, add-zero, sub-zero}
+use native.Mathlib.Nat.{add-zero, sub-zero}
 use native.Mathlib.Numerals.{add-one}
 use mathlib.Core.Path.{_≡_, refl, sym, ap, _∙_}
-use mathlib.Core.Bool.{cond}
 use mathlib.Core.List.{List, [], _∷_, _++_, append-nil}
-use lib.Dec.{ltb}
 use lib.ListN.{length, take, drop, getD, set, length-set, length-drop, take-append-drop}
 use lib.Seq.{drop-cons, take-suc-set, drop-set-lt, drop-drop, length-take-le}
 use borrow.Author.Tests.{lt-ltb, le-ltb}
 use Rattle.machine.specs.Machine as machine
 use Rattle.machine.specs.Machine.{Need, acts, runs, Machine, line}
-use Rattle.machine.specs.Outcome.{Outcome, halt, acted, join}
+use Rattle.machine.specs.Outcome.{halt, acted, join}
 use Rattle.machine.specs.Call.{standing, call}
 use Rattle.machine.specs.Lawful.{Lawful}
 use Rattle.machine.specs.Loop.{Acted}

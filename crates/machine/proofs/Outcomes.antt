@@ -1,8 +1,7 @@
 -- Outcomes put one behind the other; a test and what stands behind it.
 -- Assumes nothing.
-use Prim.Native.Nat.{ℕ, _+_}
 use native.Mathlib.Nat.{zero-add, add-zero, add-assoc}
-use mathlib.Core.Path.{_≡_, refl, ap}
+use mathlib.Core.Path.{_≡_, refl}
 use mathlib.Core.Bool.{Bool, true, false, cond}
 use mathlib.Core.List.{append-nil, append-assoc}
 use Rattle.machine.specs.Outcome.{Outcome, halt, join}

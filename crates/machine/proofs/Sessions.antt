@@ -1,29 +1,28 @@
 -- A list of calls to a faithful session follows the uncut definition.
 -- Assumes nothing.
-use Prim.Native.Nat.{ℕ, zero, suc, _+_, _≤_, _<_}
+use Prim.Native.Nat.{ℕ, zero, suc, _≤_, _<_}
 use native.Mathlib.Omega.{arith}
-use mathlib.Core.Path.{_≡_, refl, sym, ap, subst, _∙_}
-use mathlib.Core.Bool.{cond}
-use mathlib.Core.List.{List, [], _∷_, _++_, map}
-use lib.Dec.{eqb, ltb}
+use mathlib.Core.Path.{_≡_, refl, sym, ap, _∙_}
+use mathlib.Core.List.{List, [], _∷_, map}
+use lib.Dec.{ltb}
 use lib.ListN.{length, take, drop, length-append, length-drop}
 use lib.Seq.{drop-drop, drop-length, take-append-seam}
 use borrow.Author.Tests.{eq-eqb, ne-eqb, ltb-true}
 use borrow.Table.Steps.{cases}
 use Rattle.machine.specs.Machine.{Need, acts, runs, Machine}
 use Rattle.machine.specs.Outcome.{Outcome, halt, join}
-use Rattle.machine.specs.Call.{Call, offered, standing, standingOf, call, calls}
+use Rattle.machine.specs.Call.{Call, offered, standing, call, calls}
 use Rattle.machine.specs.Uncut.{uncut}
-use Rattle.machine.specs.History.{Event, Path, Came}
+use Rattle.machine.specs.History.{Event, Came}
 use Rattle.machine.specs.Lawful.{Every}
-use Rattle.machine.specs.Claim.{Begins, Stopped}
+use Rattle.machine.specs.Claim.{Stopped}
 use Rattle.machine.specs.Session.{Session, Answer, refused, accepted, answerOf}
 use Rattle.machine.specs.SessionLaws.{Byte, Faithful}
-use Rattle.machine.specs.Listing.{Lent, Given, totals, answers, given, Made, none, next}
+use Rattle.machine.specs.Listing.{Lent, totals, answers, given, Made, none, next}
 use Rattle.machine.specs.SessionClaim as claim
-use Rattle.machine.specs.SessionClaim.{TookAll, Follows, Holds, Claim}
+use Rattle.machine.specs.SessionClaim.{TookAll, Follows, Claim}
 use Rattle.machine.specs.declared.Record.{Record}
-use Rattle.machine.proofs.Outcomes.{halt-join, join-halt}
+use Rattle.machine.proofs.Outcomes.{halt-join}
 use Rattle.machine.proofs.Actions.{call-run, call-short, call-full}
 use Rattle.machine.proofs.Paths.{path-keeps, call-came, calls-came, at-start}
 use Rattle.machine.proofs.Stops.{call-blocked}

@@ -3,9 +3,9 @@
 use Prim.Native.Nat.{ℕ, zero, suc, _+_, _-_, _≤_, _<_}
 use native.Mathlib.Omega.{arith}
 use native.Mathlib.Nat.{zero-add}
-use mathlib.Core.Path.{_≡_, refl, sym, ap, subst, _∙_}
-use mathlib.Core.Bool.{Bool, true, false, cond, _&&_}
-use mathlib.Core.List.{List, [], _∷_, _++_}
+use mathlib.Core.Path.{_≡_, refl, sym, ap, _∙_}
+use mathlib.Core.Bool.{true, false, _&&_}
+use mathlib.Core.List.{List, [], _++_}
 use lib.Dec.{leb, ltb}
 use lib.ListN.{length, take, drop, length-drop, length-append}
 use lib.Seq.{length-take-le, drop-drop}
@@ -14,9 +14,9 @@ use borrow.Table.Steps.{cases}
 use Rattle.wire.proofs.Tests.{both-true}
 use Rattle.machine.specs.Machine.{Need, acts, runs, Machine}
 use Rattle.machine.specs.Outcome.{Outcome, halt, acted, join}
-use Rattle.machine.specs.Call.{standing, act, call}
+use Rattle.machine.specs.Call.{act, call}
 use Rattle.machine.specs.Uncut.{drainAt, drain, feed, uncut}
-use Rattle.machine.specs.Lawful.{Every, Kept, Moves, takes-one, sends-one, stops, Lawful}
+use Rattle.machine.specs.Lawful.{Every, Moves, takes-one, sends-one, stops, Lawful}
 use Rattle.machine.specs.Claim.{Stopped, waits, running}
 use Rattle.machine.proofs.Paths.{every-take, every-drop}
 use Rattle.machine.proofs.Actions.{drain-takes-none}

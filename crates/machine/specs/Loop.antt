@@ -6,7 +6,6 @@ use mathlib.Core.List.{List}
 use lib.ListN.{length, drop}
 use Rattle.memory.specs.Store.{laid}
 use Rattle.machine.specs.Machine.{Machine}
-use Rattle.machine.specs.Outcome.{Outcome}
 use Rattle.machine.specs.Call.{standing, call}
 
 module _ {A S : Type 0} (m : Machine A S) where

@@ -8,7 +8,6 @@ use lib.Dec.{eqb}
 use lib.ListN.{length, drop}
 use Rattle.memory.specs.Store.{laid}
 use Rattle.machine.specs.Machine.{Machine}
-use Rattle.machine.specs.Outcome.{Outcome}
 use Rattle.machine.specs.Call.{standing, call}
 use Rattle.machine.specs.declared.Record.{Record}
 use Rattle.machine.specs.declared.Report.{Report}

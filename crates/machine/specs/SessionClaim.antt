@@ -4,7 +4,6 @@ use Prim.Native.Nat.{ℕ, _+_, _≤_}
 use mathlib.Core.Path.{_≡_}
 use mathlib.Core.List.{List, [], map}
 use lib.ListN.{length, take, drop}
-use Rattle.machine.specs.Outcome.{Outcome}
 use Rattle.machine.specs.Uncut.{uncut}
 use Rattle.machine.specs.History.{Event, Path, Came}
 use Rattle.machine.specs.Lawful.{Every}

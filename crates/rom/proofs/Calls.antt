@@ -1,12 +1,11 @@
 -- A call's answer, case by case.
 -- Assumes nothing.
 use Prim.Native.Nat.{ℕ}
-use mathlib.Core.Path.{_≡_, refl, sym, ap, _∙_}
-use mathlib.Core.Bool.{true, false, cond}
+use mathlib.Core.Path.{_≡_, refl, ap}
+use mathlib.Core.Bool.{true, false}
 use mathlib.Core.List.{List}
-use lib.ListN.{length, drop}
+use lib.ListN.{length}
 use Rattle.wire.specs.Length.{isRamLength, badRam}
-use Rattle.memory.specs.Store.{laid}
 use Rattle.machine.specs.Call.{standing, call}
 use Rattle.machine.specs.Loop.{Acted}
 use Rattle.machine.specs.Session.{badRecord, refusedReport, accepted, answerOf}

@@ -2,7 +2,7 @@
 -- Assumes nothing.
 use Prim.Native.Nat.{ℕ, _+_, _*_}
 use native.Mathlib.Omega.{arith}
-use mathlib.Core.Path.{_≡_, refl, sym, ap, _∙_}
+use mathlib.Core.Path.{_≡_, refl, sym, _∙_}
 use mathlib.Core.Bool.{Bool, true, false, cond, _&&_, _||_, and-false}
 use mathlib.Core.List.{List, [], _∷_}
 use lib.Dec.{eqb, leb, ltb}
@@ -10,7 +10,6 @@ use lib.ListN.{length}
 use Rattle.wire.specs.Length.{isRamLength}
 use Rattle.machine.specs.Machine as machine
 use Rattle.machine.specs.History.{Event}
-use Rattle.machine.specs.Session.{sound}
 use Rattle.machine.specs.SessionLaws.{Byte, Faithful}
 use Rattle.machine.proofs.Lines.{line-one, line-speaks, line-kept}
 use Rattle.machine.proofs.Sessions.{session-claim}
@@ -25,7 +24,7 @@ use Rattle.rom.specs.Receiver.{State, fresh, need, took, byte, sent, due
 use Rattle.rom.specs.Record.{kindNumber, written}
 use Rattle.rom.specs.Session.{freshRecord, rom}
 use Rattle.rom.specs.Sound.{Sound}
-use Rattle.rom.specs.Claim.{awaitsAck, isRunning, isAck, acknowledged, RunsExactly, RomClaim}
+use Rattle.rom.specs.Claim.{awaitsAck, isRunning, acknowledged, RunsExactly, RomClaim}
 use Rattle.rom.proofs.Laws.{is-line, lawful}
 use Rattle.rom.proofs.Records.{reads-back}
 

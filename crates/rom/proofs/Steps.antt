@@ -2,7 +2,7 @@
 -- Assumes nothing.
 use Prim.Native.Nat.{ℕ, suc, _+_, _*_, _≤_, _<_}
 use native.Mathlib.Omega.{arith}
-use mathlib.Core.Path.{_≡_, refl, sym, ap, subst, _∙_}
+use mathlib.Core.Path.{_≡_, refl, subst}
 use mathlib.Core.Bool.{Bool, true, false, cond}
 use lib.Dec.{eqb, leb, ltb}
 use borrow.Author.Tests.{leb-true, ltb-true, eqb-false}
@@ -14,7 +14,7 @@ use Rattle.rom.specs.declared.step.Step.the-variants.{SendStx, TakeSoh, 
 use Rattle.rom.specs.declared.step.Ask.{Ask}
 use Rattle.rom.specs.declared.step.Ask.the-variants as ask
 use Rattle.rom.specs.declared.step.Progress.{Progress}
-use Rattle.rom.specs.Flow.{to, judged, zeroLength, headed, codeStep, took, sent, due}
+use Rattle.rom.specs.Flow.{judged, zeroLength, headed, codeStep, took, sent, due}
 use Rattle.rom.specs.Ask.{askOf, needOf}
 use Rattle.rom.specs.Stored.{InRam}
 use Rattle.rom.specs.Sound.{SoundStep}

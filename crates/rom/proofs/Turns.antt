@@ -4,13 +4,12 @@ use Prim.Native.Nat.{ℕ, zero, suc, _+_, _-_, _<_, _≤_, min}
 use native.Mathlib.Omega.{arith}
 use native.Mathlib.Nat.{add-zero, add-suc}
 use native.Mathlib.Numerals.{add-one}
-use mathlib.Core.Path.{_≡_, refl, sym, ap, subst, _∙_}
+use mathlib.Core.Path.{_≡_, refl, sym, ap, _∙_}
 use mathlib.Core.List.{List}
 use lib.ListN.{length, drop, getD, set, length-drop}
 use lib.Seq.{getD-drop, paste, paste-zero, paste-suc}
 use borrow.Author.Tests.{lt-ltb}
 use Rattle.machine.specs.Machine as machine
-use Rattle.machine.specs.Machine.{runs}
 use Rattle.machine.specs.Loop.{Acted}
 use Rattle.machine.proofs.Loops.{Reached, reached-start, reached-take, reached-send, acted-hungry, acted-choked, acted-runs}
 use Rattle.rom.specs.declared.kind.Kind.{Kind}
@@ -22,9 +21,9 @@ use Rattle.rom.specs.declared.step.Ask.the-variants.{TakeByte, TakeCode,
 use Rattle.rom.specs.declared.step.Progress.{Progress}
 use Rattle.rom.specs.Flow as flow
 use Rattle.rom.specs.Ask.{askOf, needOf, wordOf}
-use Rattle.rom.specs.Receiver.{State, took, sent, receiver}
+use Rattle.rom.specs.Receiver.{took, sent, receiver}
 use Rattle.rom.specs.Session.{state}
-use Rattle.rom.specs.Sound.{Ready, Sound}
+use Rattle.rom.specs.Sound.{Ready}
 use Rattle.rom.specs.Stored.{Copied}
 use Rattle.rom.proofs.Steps.{ask-inside, asks-code, InAsk}
 use Rattle.rom.proofs.Laws.{lawful-any, took-sound, sent-sound, stored-length}

@@ -5,57 +5,40 @@ use Rattle.capi.proofs.Boundary.{given-accepted, given-refused}
 use borrow.Author.Needs.{needs}
 use Rattle.capi.proofs.und_rom_call.Statement.{statement}
 use Rattle.capi.proofs.und_rom_call.Tie as tie
-use Rattle.capi.proofs.und_rom_call.Reads as reads
-use Rattle.capi.proofs.und_rom_call.Lts as lts
-use Rattle.capi.proofs.called_of.Reads as called-of-reads
-use Rattle.machine.proofs.words.put.Reads as put-reads
-use Rattle.machine.proofs.words.record_of.Reads as record-of-reads
-use Rattle.rom.proofs.session.call.Reads as call-reads
 
--- src/lib.rt:89:37
 record-of-requires : tie.Need-record-of-requires
 record-of-requires c κs = search needs
 
--- src/lib.rt:89:9
 call-requires : tie.Need-call-requires
 call-requires c κs = search needs
 
--- src/lib.rt:91:9
 called-of-requires : tie.Need-called-of-requires
 called-of-requires c κs = search needs
 
--- src/lib.rt:91:9
 same-length : tie.Need-same-length
 same-length c = search needs
 
--- src/lib.rt:91:9
 same-length-2 : tie.Need-same-length-2
 same-length-2 c = search needs
 
--- src/lib.rt:91:9
 returns : tie.Need-returns
 returns c =
     let a = c .before .before .before .before .before .before .before .before .before .before .before .before .before .before .before .args in
     given-refused rom (a .words .now) (a .ram .now) (a .input .now) (a .reply .now) _ (c .before .before .before .before .before .before .before .before .before .before .record-of .ensures) _ _ _ (c .before .before .before .before .before .before .before .call .ensures)
     (c .before .if1 .taken) _ (c .called-of .ensures)
 
--- src/lib.rt:93:5
 put-requires : tie.Need-put-requires
 put-requires c κs = search needs
 
--- src/lib.rt:94:5
 called-of-requires-2 : tie.Need-called-of-requires-2
 called-of-requires-2 c κs = search needs
 
--- src/lib.rt:85:1
 same-length-3 : tie.Need-same-length-3
 same-length-3 c = search needs
 
--- src/lib.rt:85:1
 same-length-4 : tie.Need-same-length-4
 same-length-4 c = search needs
 
--- src/lib.rt:85:1
 returns-2 : tie.Need-returns-2
 returns-2 c =
     let a = c .before .before .before .before .before .before .before .before .before .before .before .before .before .before .before .before .before .args in

@@ -7,42 +7,31 @@ use Rattle.machine.proofs.Refusals.{words-back}
 use borrow.Author.Needs.{needs}
 use Rattle.machine.proofs.words.record_of.Statement.{statement}
 use Rattle.machine.proofs.words.record_of.Tie as tie
-use Rattle.machine.proofs.words.record_of.Reads as reads
-use Rattle.machine.proofs.words.record_of.Lts as lts
 
--- src/words.rt:12:15
 array-read-t5 : tie.Need-array-read-t5
 array-read-t5 c = search needs
 
--- src/words.rt:13:16
 array-read-t8 : tie.Need-array-read-t8
 array-read-t8 c = search needs
 
--- src/words.rt:14:17
 array-read-t11 : tie.Need-array-read-t11
 array-read-t11 c = search needs
 
--- src/words.rt:15:17
 array-read-t14 : tie.Need-array-read-t14
 array-read-t14 c = search needs
 
--- src/words.rt:16:16
 array-read-t17 : tie.Need-array-read-t17
 array-read-t17 c = search needs
 
--- src/words.rt:17:15
 array-read-t20 : tie.Need-array-read-t20
 array-read-t20 c = search needs
 
--- src/words.rt:18:17
 array-read-t23 : tie.Need-array-read-t23
 array-read-t23 c = search needs
 
--- src/words.rt:19:16
 array-read-t26 : tie.Need-array-read-t26
 array-read-t26 c = search needs
 
--- src/words.rt:7:1
 returns : tie.Need-returns
 returns c =
     let l : length (c .args .t1) ≡ 8 = omega arith in

@@ -1,14 +1,12 @@
+-- `rom::flow::code_step`: by the test.
+-- Assumes nothing.
 use Rattle.rom.proofs.flow.code_step.Statement.{statement}
 use Rattle.rom.proofs.flow.code_step.Tie as tie
-use Rattle.rom.proofs.flow.code_step.Reads as reads
-use Rattle.rom.proofs.flow.code_step.Lts as lts
-use borrow.Author.Tests.{lt-ltb, lt-leb, le-leb, le-ltb}
+use borrow.Author.Tests.{lt-ltb, le-ltb}
 
--- src/flow.rt:107:1
 returns : tie.Need-returns
 returns c = simp (lt-ltb _ _ (c .if1 .taken))
 
--- src/flow.rt:107:1
 returns-2 : tie.Need-returns-2
 returns-2 c = simp (le-ltb _ _ (c .if1 .left))
 

@@ -1,28 +1,22 @@
+-- `rom::flow::judge`: by the test; a length within the RAM fits 32 bits.
+-- Assumes nothing.
 use borrow.Author.Needs.{needs}
 use Rattle.rom.proofs.flow.judge.Statement.{statement}
 use Rattle.rom.proofs.flow.judge.Tie as tie
-use Rattle.rom.proofs.flow.judge.Reads as reads
-use Rattle.rom.proofs.flow.judge.Lts as lts
-use Rattle.rom.proofs.flow.to.Reads as to-reads
 use borrow.Author.Tests.{lt-leb, le-leb}
 
--- src/flow.rt:72:26
 cast-t7 : tie.Need-cast-t7
 cast-t7 c = search needs
 
--- src/flow.rt:72:9
 to-requires : tie.Need-to-requires
 to-requires c κs = search needs
 
--- src/flow.rt:74:9
 to-requires-2 : tie.Need-to-requires-2
 to-requires-2 c κs = search needs
 
--- src/flow.rt:68:1
 returns : tie.Need-returns
 returns c = simp (c .to .ensures, le-leb _ _ (c .before .if1 .taken))
 
--- src/flow.rt:68:1
 returns-2 : tie.Need-returns-2
 returns-2 c = simp (c .to2 .ensures, lt-leb _ _ (c .before .if1 .left))
 

@@ -1,31 +1,24 @@
+-- `rom::flow::zero_length`: by the kind.
+-- Assumes nothing.
 use borrow.Author.Needs.{needs}
 use Rattle.rom.proofs.flow.zero_length.Statement.{statement}
 use Rattle.rom.proofs.flow.zero_length.Tie as tie
-use Rattle.rom.proofs.flow.zero_length.Reads as reads
-use Rattle.rom.proofs.flow.zero_length.Lts as lts
-use Rattle.rom.proofs.flow.to.Reads as to-reads
 
--- src/flow.rt:83:23
 enum-told : tie.Need-enum-told
 enum-told c = search needs
 
--- src/flow.rt:83:20
 to-requires : tie.Need-to-requires
 to-requires c κs = search needs
 
--- src/flow.rt:84:23
 enum-told-2 : tie.Need-enum-told-2
 enum-told-2 c = search needs
 
--- src/flow.rt:84:20
 to-requires-2 : tie.Need-to-requires-2
 to-requires-2 c κs = search needs
 
--- src/flow.rt:79:1
 returns : tie.Need-returns
 returns c = simp (c .to .ensures, c .before .enum-told .given .1)
 
--- src/flow.rt:79:1
 returns-2 : tie.Need-returns-2
 returns-2 c = simp (c .to2 .ensures, c .before .enum-told2 .given .1)
 

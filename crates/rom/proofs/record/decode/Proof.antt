@@ -5,43 +5,30 @@ use Rattle.rom.specs.Record.{decodedOf}
 use borrow.Author.Needs.{needs}
 use Rattle.rom.proofs.record.decode.Statement.{statement}
 use Rattle.rom.proofs.record.decode.Tie as tie
-use Rattle.rom.proofs.record.decode.Reads as reads
-use Rattle.rom.proofs.record.decode.Lts as lts
-use Rattle.rom.proofs.record.fields.Reads as fields-reads
-use Rattle.rom.proofs.record.step_in.Reads as step-in-reads
-use Rattle.rom.proofs.record.with_kind.Reads as with-kind-reads
 
--- src/record.rt:154:9
 fields-requires : tie.Need-fields-requires
 fields-requires c κs = search needs
 
--- src/record.rt:157:33
 step-in-requires : tie.Need-step-in-requires
 step-in-requires c κs = search needs
 
--- src/record.rt:157:14
 with-kind-requires : tie.Need-with-kind-requires
 with-kind-requires c κs = search needs
 
--- src/record.rt:158:33
 step-in-requires-2 : tie.Need-step-in-requires-2
 step-in-requires-2 c κs = search needs
 
--- src/record.rt:158:14
 with-kind-requires-2 : tie.Need-with-kind-requires-2
 with-kind-requires-2 c κs = search needs
 
--- src/record.rt:151:1
 returns : tie.Need-returns
 unfolding decodedOf
 returns c = simp (c .with-kind .ensures, c .before .step-in .ensures, c .before .before .before .fields .ensures, c .before .before .match .keys1)
 
--- src/record.rt:151:1
 returns-2 : tie.Need-returns-2
 unfolding decodedOf
 returns-2 c = simp (c .with-kind2 .ensures, c .before .step-in2 .ensures, c .before .before .before .fields .ensures, c .before .before .match .keys2)
 
--- src/record.rt:151:1
 returns-3 : tie.Need-returns-3
 unfolding decodedOf
 returns-3 c = simp (ne-eqb _ _ (c .match .rest .0 .1), ne-eqb _ _ (c .match .rest .1))

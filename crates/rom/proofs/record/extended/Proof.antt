@@ -1,22 +1,18 @@
+-- `rom::record::extended`: by the kind.
+-- Assumes nothing.
 use borrow.Author.Needs.{needs}
 use Rattle.rom.proofs.record.extended.Statement.{statement}
 use Rattle.rom.proofs.record.extended.Tie as tie
-use Rattle.rom.proofs.record.extended.Reads as reads
-use Rattle.rom.proofs.record.extended.Lts as lts
 
--- src/record.rt:114:20
 enum-told : tie.Need-enum-told
 enum-told c = search needs
 
--- src/record.rt:115:20
 enum-told-2 : tie.Need-enum-told-2
 enum-told-2 c = search needs
 
--- src/record.rt:110:1
 returns : tie.Need-returns
 returns c = search needs
 
--- src/record.rt:110:1
 returns-2 : tie.Need-returns-2
 returns-2 c = simp (c .enum-told2 .given .1)
 

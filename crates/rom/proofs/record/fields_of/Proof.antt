@@ -1,151 +1,114 @@
+-- `rom::record::fields_of`: step by step.
+-- Assumes nothing.
 use borrow.Author.Needs.{needs}
 use Rattle.rom.proofs.record.fields_of.Statement.{statement}
 use Rattle.rom.proofs.record.fields_of.Tie as tie
-use Rattle.rom.proofs.record.fields_of.Reads as reads
-use Rattle.rom.proofs.record.fields_of.Lts as lts
-use Rattle.rom.proofs.record.fields.Reads as fields-reads
 
--- src/record.rt:43:26
 enum-told : tie.Need-enum-told
 enum-told c = search needs
 
--- src/record.rt:43:26
 fields-requires : tie.Need-fields-requires
 fields-requires c κs = search needs
 
--- src/record.rt:44:26
 enum-told-2 : tie.Need-enum-told-2
 enum-told-2 c = search needs
 
--- src/record.rt:44:26
 fields-requires-2 : tie.Need-fields-requires-2
 fields-requires-2 c κs = search needs
 
--- src/record.rt:45:26
 enum-told-3 : tie.Need-enum-told-3
 enum-told-3 c = search needs
 
--- src/record.rt:45:26
 fields-requires-3 : tie.Need-fields-requires-3
 fields-requires-3 c κs = search needs
 
--- src/record.rt:46:24
 enum-known-step : tie.Need-enum-known-step
 enum-known-step c = search needs
 
--- src/record.rt:46:32
 fields-requires-4 : tie.Need-fields-requires-4
 fields-requires-4 c κs = search needs
 
--- src/record.rt:47:34
 enum-told-4 : tie.Need-enum-told-4
 enum-told-4 c = search needs
 
--- src/record.rt:47:34
 fields-requires-5 : tie.Need-fields-requires-5
 fields-requires-5 c κs = search needs
 
--- src/record.rt:48:32
 enum-known-step-2 : tie.Need-enum-known-step-2
 enum-known-step-2 c = search needs
 
--- src/record.rt:48:40
 fields-requires-6 : tie.Need-fields-requires-6
 fields-requires-6 c κs = search needs
 
--- src/record.rt:49:23
 enum-known-step-3 : tie.Need-enum-known-step-3
 enum-known-step-3 c = search needs
 
--- src/record.rt:49:34
 fields-requires-7 : tie.Need-fields-requires-7
 fields-requires-7 c κs = search needs
 
--- src/record.rt:50:24
 enum-known-step-4 : tie.Need-enum-known-step-4
 enum-known-step-4 c = search needs
 
--- src/record.rt:50:42
 fields-requires-8 : tie.Need-fields-requires-8
 fields-requires-8 c κs = search needs
 
--- src/record.rt:51:23
 enum-known-step-5 : tie.Need-enum-known-step-5
 enum-known-step-5 c = search needs
 
--- src/record.rt:51:34
 fields-requires-9 : tie.Need-fields-requires-9
 fields-requires-9 c κs = search needs
 
--- src/record.rt:52:23
 enum-known-step-6 : tie.Need-enum-known-step-6
 enum-known-step-6 c = search needs
 
--- src/record.rt:52:34
 fields-requires-10 : tie.Need-fields-requires-10
 fields-requires-10 c κs = search needs
 
--- src/record.rt:53:26
 enum-told-5 : tie.Need-enum-told-5
 enum-told-5 c = search needs
 
--- src/record.rt:53:26
 fields-requires-11 : tie.Need-fields-requires-11
 fields-requires-11 c κs = search needs
 
--- src/record.rt:54:26
 enum-told-6 : tie.Need-enum-told-6
 enum-told-6 c = search needs
 
--- src/record.rt:54:26
 fields-requires-12 : tie.Need-fields-requires-12
 fields-requires-12 c κs = search needs
 
--- src/record.rt:39:1
 returns : tie.Need-returns
 returns c = simp (c .fields .ensures, c .before .enum-told .given .1)
 
--- src/record.rt:39:1
 returns-2 : tie.Need-returns-2
 returns-2 c = simp (c .fields2 .ensures, c .before .enum-told2 .given .1)
 
--- src/record.rt:39:1
 returns-3 : tie.Need-returns-3
 returns-3 c = simp (c .fields3 .ensures, c .before .enum-told3 .given .1)
 
--- src/record.rt:39:1
 returns-4 : tie.Need-returns-4
 returns-4 c = simp (c .fields4 .ensures, c .before .before .step .given .1)
 
--- src/record.rt:39:1
 returns-5 : tie.Need-returns-5
 returns-5 c = simp (c .fields5 .ensures, c .before .enum-told4 .given .1)
 
--- src/record.rt:39:1
 returns-6 : tie.Need-returns-6
 returns-6 c = simp (c .fields6 .ensures, c .before .before .step2 .given .1)
 
--- src/record.rt:39:1
 returns-7 : tie.Need-returns-7
 returns-7 c = simp (c .fields7 .ensures, c .before .before .step3 .given .1)
 
--- src/record.rt:39:1
 returns-8 : tie.Need-returns-8
 returns-8 c = simp (c .fields8 .ensures, c .before .before .step4 .given .1)
 
--- src/record.rt:39:1
 returns-9 : tie.Need-returns-9
 returns-9 c = simp (c .fields9 .ensures, c .before .before .step5 .given .1)
 
--- src/record.rt:39:1
 returns-10 : tie.Need-returns-10
 returns-10 c = simp (c .fields10 .ensures, c .before .before .step6 .given .1)
 
--- src/record.rt:39:1
 returns-11 : tie.Need-returns-11
 returns-11 c = simp (c .fields11 .ensures, c .before .enum-told5 .given .1)
 
--- src/record.rt:39:1
 returns-12 : tie.Need-returns-12
 returns-12 c = simp (c .fields12 .ensures, c .before .enum-told6 .given .1)
 

@@ -6,97 +6,73 @@ use Rattle.rom.specs.Record.{stepIn}
 use borrow.Author.Needs.{needs}
 use Rattle.rom.proofs.record.step_in.Statement.{statement}
 use Rattle.rom.proofs.record.step_in.Tie as tie
-use Rattle.rom.proofs.record.step_in.Reads as reads
-use Rattle.rom.proofs.record.step_in.Lts as lts
-use Rattle.rom.proofs.record.coded.Reads as coded-reads
-use Rattle.rom.proofs.record.extended.Reads as extended-reads
-use Rattle.rom.proofs.record.sized.Reads as sized-reads
 
--- src/record.rt:129:14
 extended-requires : tie.Need-extended-requires
 extended-requires c κs = search needs
 
--- src/record.rt:130:14
 extended-requires-2 : tie.Need-extended-requires-2
 extended-requires-2 c κs = search needs
 
--- src/record.rt:131:14
 sized-requires : tie.Need-sized-requires
 sized-requires c κs = search needs
 
--- src/record.rt:132:14
 coded-requires : tie.Need-coded-requires
 coded-requires c κs = search needs
 
--- src/record.rt:133:14
 sized-requires-2 : tie.Need-sized-requires-2
 sized-requires-2 c κs = search needs
 
--- src/record.rt:134:14
 sized-requires-3 : tie.Need-sized-requires-3
 sized-requires-3 c κs = search needs
 
--- src/record.rt:119:1
 returns : tie.Need-returns
 unfolding stepIn
 returns c = simp (c .match .keys1)
 
--- src/record.rt:119:1
 returns-2 : tie.Need-returns-2
 unfolding stepIn
 returns-2 c = simp (c .match .keys2)
 
--- src/record.rt:119:1
 returns-3 : tie.Need-returns-3
 unfolding stepIn
 returns-3 c = simp (c .match .keys3)
 
--- src/record.rt:119:1
 returns-4 : tie.Need-returns-4
 unfolding stepIn
 returns-4 c = simp (c .match .keys4)
 
--- src/record.rt:119:1
 returns-5 : tie.Need-returns-5
 unfolding stepIn
 returns-5 c = c .extended .ensures ∙ simp (c .before .match .keys5)
 
--- src/record.rt:119:1
 returns-6 : tie.Need-returns-6
 unfolding stepIn
 returns-6 c = c .extended2 .ensures ∙ simp (c .before .match .keys6)
 
--- src/record.rt:119:1
 returns-7 : tie.Need-returns-7
 unfolding stepIn
 returns-7 c = c .sized .ensures ∙ simp (c .before .match .keys7)
 
--- src/record.rt:119:1
 returns-8 : tie.Need-returns-8
 unfolding stepIn
 returns-8 c = c .coded .ensures ∙ simp (c .before .match .keys8)
 
--- src/record.rt:119:1
 returns-9 : tie.Need-returns-9
 unfolding stepIn
 returns-9 c = c .sized2 .ensures ∙ simp (c .before .match .keys9)
 
--- src/record.rt:119:1
 returns-10 : tie.Need-returns-10
 unfolding stepIn
 returns-10 c = c .sized3 .ensures ∙ simp (c .before .match .keys10)
 
--- src/record.rt:119:1
 returns-11 : tie.Need-returns-11
 unfolding stepIn
 returns-11 c = simp (c .match .keys11)
 
--- src/record.rt:119:1
 returns-12 : tie.Need-returns-12
 unfolding stepIn
 returns-12 c = simp (c .match .keys12)
 
--- src/record.rt:119:1
 returns-13 : tie.Need-returns-13
 unfolding stepIn
 returns-13 c =

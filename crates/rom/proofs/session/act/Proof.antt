@@ -9,15 +9,6 @@ use Rattle.wire.proofs.Lengths.{ram-bound}
 use Rattle.rom.proofs.Turns.{Turn, begins, inside, took-turn, code-turn, sent-turn, hungry, hungry-code, choked, halts}
 use Rattle.rom.proofs.session.act.Statement.{statement}
 use Rattle.rom.proofs.session.act.Tie as tie
-use Rattle.rom.proofs.session.act.Reads as reads
-use Rattle.rom.proofs.session.act.Lts as lts
-use Rattle.rom.proofs.flow.ask_of.Reads as ask-of-reads
-use Rattle.rom.proofs.flow.code_step.Reads as code-step-reads
-use Rattle.rom.proofs.flow.sent.Reads as sent-reads
-use Rattle.rom.proofs.flow.took.Reads as took-reads
-use Rattle.rom.proofs.session.stopped.Reads as stopped-reads
-use Rattle.rom.proofs.store.byte_of.Reads as byte-of-reads
-use Rattle.rom.proofs.store.take_code.Reads as take-code-reads
 
 abbrev Inv-loop : tie.InvT-loop
 Inv-loop kind reason input reply₀ ram₀ size step₀ last₀ i₀ j₀ reply ram step last i j = Turn kind step₀ last₀ ram₀ input reply₀ step last ram reply i j
@@ -30,179 +21,138 @@ wanted : (c : tie.After-known-told Inv-loop μ-loop) →
     (c .before .total .given .0 .1 .0 < c .before .total .given .0 .0) × (c .before .total .given .0 .0 ≤ length (c .before .before .before .before .loop .ram))
 wanted c = inside (c .before .before .before .before .loop .inv) _ (c .before .before .before .ask-of .ensures) _ (c .before .total .given .1)
 
--- src/session.rt:76:16
 cast-size : tie.Need-cast-size Inv-loop μ-loop
 cast-size c = omega (arith, ram-bound _ (c .before .before .before .pre .fits))
 
--- src/session.rt:81:5
 loop-holds : tie.Need-loop-holds Inv-loop μ-loop
 loop-holds c = begins (c .before .before .before .pre)
 
--- src/session.rt:82:15
 ask-of-requires : tie.Need-ask-of-requires Inv-loop μ-loop
 ask-of-requires c κs = search needs
 
--- src/session.rt:84:25
 enum-told : tie.Need-enum-told Inv-loop μ-loop
 enum-told c = search needs
 
--- src/session.rt:85:21
 stopped-requires : tie.Need-stopped-requires Inv-loop μ-loop
 stopped-requires c κs = search needs
 
--- src/session.rt:85:21
 same-length : tie.Need-same-length Inv-loop μ-loop
 same-length c = c .before .before .before .before .before .loop .inv .reached .same-length
 
--- src/session.rt:85:21
 same-length-2 : tie.Need-same-length-2 Inv-loop μ-loop
 same-length-2 c = c .before .before .before .before .before .loop .inv .same-ram
 
--- src/session.rt:85:21
 returns : tie.Need-returns Inv-loop μ-loop
 returns c =
     rw (c .stopped .ensures)
     (hungry (c .before .before .before .before .before .loop .inv) _ (c .before .before .before .before .ask-of .ensures) (c .before .before .enum-told .given .1) (c .before .if1 .taken))
 
--- src/session.rt:87:58
 shared-slice-read-took : tie.Need-shared-slice-read-took Inv-loop μ-loop
 shared-slice-read-took c = omega arith
 
--- src/session.rt:87:21
 took-requires : tie.Need-took-requires Inv-loop μ-loop
 took-requires c κs = sym (c .before .before .before .before .ask-of .ensures) ∙ c .before .before .enum-told .given .1
 
--- src/session.rt:90:17
 add-i : tie.Need-add-i Inv-loop μ-loop
 add-i c = omega arith
 
--- src/session.rt:81:5
 loop-less : tie.Need-loop-less Inv-loop μ-loop
 loop-less c = omega arith
 
--- src/session.rt:81:5
 loop-again : tie.Need-loop-again Inv-loop μ-loop
 loop-again c =
     took-turn (c .before .before .before .before .before .before .loop .inv) _ (c .before .before .before .before .before .ask-of .ensures) (c .before .before .before .enum-told .given .1) (c .before .before .if1 .left)
     (c .took .result) (c .took .ensures)
 
--- src/session.rt:92:27
 enum-known-total : tie.Need-enum-known-total Inv-loop μ-loop
 enum-known-total c = search needs
 
--- src/session.rt:94:21
 stopped-requires-2 : tie.Need-stopped-requires-2 Inv-loop μ-loop
 stopped-requires-2 c κs = search needs
 
--- src/session.rt:94:21
 same-length-3 : tie.Need-same-length-3 Inv-loop μ-loop
 same-length-3 c = c .before .before .before .before .before .before .loop .inv .reached .same-length
 
--- src/session.rt:94:21
 same-length-4 : tie.Need-same-length-4 Inv-loop μ-loop
 same-length-4 c = c .before .before .before .before .before .before .loop .inv .same-ram
 
--- src/session.rt:94:21
 returns-2 : tie.Need-returns-2 Inv-loop μ-loop
 returns-2 c =
     rw (c .stopped2 .ensures)
     (hungry-code (c .before .before .before .before .before .before .loop .inv) _ (c .before .before .before .before .before .ask-of .ensures) _ _ (c .before .before .before .total .given .1) (c .before .if2 .taken))
 
--- src/session.rt:96:21
 take-code-requires : tie.Need-take-code-requires Inv-loop μ-loop
 take-code-requires c κs = let h = wanted (c .before .before) in (h .0, h .1, omega (arith, c .before .if2 .left))
 
--- src/session.rt:97:41
 add-code-step : tie.Need-add-code-step Inv-loop μ-loop
 add-code-step c = omega (arith, wanted (c .before .before .before .before .before), c .before .before .take-code .ensures .count-is)
 
--- src/session.rt:97:17
 code-step-requires : tie.Need-code-step-requires Inv-loop μ-loop
 code-step-requires c κs = search needs
 
--- src/session.rt:98:22
 cast-i : tie.Need-cast-i Inv-loop μ-loop
 cast-i c = omega (arith, c .before .before .before .take-code .ensures .count-is)
 
--- src/session.rt:98:17
 add-i-2 : tie.Need-add-i-2 Inv-loop μ-loop
 add-i-2 c = omega (arith, c .before .before .before .before .before .if2 .left, c .before .before .before .take-code .ensures .count-is)
 
--- src/session.rt:81:5
 loop-less-2 : tie.Need-loop-less-2 Inv-loop μ-loop
 loop-less-2 c = omega (arith, wanted (c .before .before .before .before .before .before), c .before .before .before .before .before .if2 .left, c .before .before .before .take-code .ensures .count-is)
 
--- src/session.rt:81:5
 loop-again-2 : tie.Need-loop-again-2 Inv-loop μ-loop
 loop-again-2 c =
     code-turn (c .before .before .before .before .before .before .before .before .before .before .loop .inv) _ (c .before .before .before .before .before .before .before .before .before .ask-of .ensures) _ _ (c .before .before .before .before .before .before .before .total .given .1) (c .before .before .before .before .before .if2 .left)
     _ _ (c .before .before .before .take-code .ensures) _ (c .code-step .ensures)
 
--- src/session.rt:100:23
 enum-known-word : tie.Need-enum-known-word Inv-loop μ-loop
 enum-known-word c = search needs
 
--- src/session.rt:102:21
 stopped-requires-3 : tie.Need-stopped-requires-3 Inv-loop μ-loop
 stopped-requires-3 c κs = search needs
 
--- src/session.rt:102:21
 same-length-5 : tie.Need-same-length-5 Inv-loop μ-loop
 same-length-5 c = c .before .before .before .before .before .before .loop .inv .reached .same-length
 
--- src/session.rt:102:21
 same-length-6 : tie.Need-same-length-6 Inv-loop μ-loop
 same-length-6 c = c .before .before .before .before .before .before .loop .inv .same-ram
 
--- src/session.rt:102:21
 returns-3 : tie.Need-returns-3 Inv-loop μ-loop
 returns-3 c =
     rw (c .stopped3 .ensures)
     (choked (c .before .before .before .before .before .before .loop .inv) _ (c .before .before .before .before .before .ask-of .ensures) _ (c .before .before .before .word .given .1) (c .before .if3 .taken))
 
--- src/session.rt:104:28
 byte-of-requires : tie.Need-byte-of-requires Inv-loop μ-loop
 byte-of-requires c κs = inside (c .before .before .before .before .before .before .loop .inv) _ (c .before .before .before .before .before .ask-of .ensures) _ (c .before .before .before .word .given .1)
 
--- src/session.rt:104:17
 slice-write-reply : tie.Need-slice-write-reply Inv-loop μ-loop
 slice-write-reply c = omega arith
 
--- src/session.rt:105:17
 sent-requires : tie.Need-sent-requires Inv-loop μ-loop
 sent-requires c κs = search needs
 
--- src/session.rt:106:17
 add-j : tie.Need-add-j Inv-loop μ-loop
 add-j c = omega arith
 
--- src/session.rt:81:5
 loop-less-3 : tie.Need-loop-less-3 Inv-loop μ-loop
 loop-less-3 c = simp length-set (omega arith)
 
--- src/session.rt:81:5
 loop-again-3 : tie.Need-loop-again-3 Inv-loop μ-loop
 loop-again-3 c =
     sent-turn (c .before .before .before .before .before .before .before .before .loop .inv) _ (c .before .before .before .before .before .before .before .ask-of .ensures) _ (c .before .before .before .before .before .word .given .1) (c .before .before .before .if3 .left)
     _ (c .before .byte-of .ensures) _ (c .sent .ensures)
 
--- src/session.rt:109:17
 enum-told-2 : tie.Need-enum-told-2 Inv-loop μ-loop
 enum-told-2 c = search needs
 
--- src/session.rt:109:17
 stopped-requires-4 : tie.Need-stopped-requires-4 Inv-loop μ-loop
 stopped-requires-4 c κs = search needs
 
--- src/session.rt:109:17
 same-length-7 : tie.Need-same-length-7 Inv-loop μ-loop
 same-length-7 c = c .before .before .before .before .loop .inv .reached .same-length
 
--- src/session.rt:109:17
 same-length-8 : tie.Need-same-length-8 Inv-loop μ-loop
 same-length-8 c = c .before .before .before .before .loop .inv .same-ram
 
--- src/session.rt:109:17
 returns-4 : tie.Need-returns-4 Inv-loop μ-loop
 returns-4 c =
     rw (c .stopped4 .ensures) (halts (c .before .before .before .before .loop .inv) _ (c .before .before .before .ask-of .ensures) (c .before .enum-told2 .given .1))

@@ -1,6 +1,5 @@
 -- `rom::session::call`: the refusals in order, and the loop's answer written out.
 -- Assumes nothing.
-use Prim.Native.Nat.{_≤_}
 use mathlib.Core.Path.{refl, sym, _∙_}
 use native.Mathlib.Omega.{arith}
 use borrow.Author.Tests.{not-true, not-false}
@@ -10,40 +9,26 @@ use Rattle.rom.proofs.Calls.{bad-length, bad-record, good}
 use borrow.Author.Needs.{needs}
 use Rattle.rom.proofs.session.call.Statement.{statement}
 use Rattle.rom.proofs.session.call.Tie as tie
-use Rattle.rom.proofs.session.call.Reads as reads
-use Rattle.rom.proofs.session.call.Lts as lts
-use Rattle.machine.proofs.refused.Reads as refused-reads
-use Rattle.rom.proofs.record.decode.Reads as decode-reads
-use Rattle.rom.proofs.record.encode.Reads as encode-reads
-use Rattle.rom.proofs.session.act.Reads as act-reads
-use Rattle.wire.proofs.length.is_ram_length.Reads as is-ram-length-reads
 
--- src/session.rt:120:9
 is-ram-length-requires : tie.Need-is-ram-length-requires
 is-ram-length-requires c κs = search needs
 
--- src/session.rt:121:9
 refused-requires : tie.Need-refused-requires
 refused-requires c κs = search needs
 
--- src/session.rt:121:9
 returns : tie.Need-returns
 returns c =
     bad-length _ _ _ _ _ (sym (c .before .before .is-ram-length .ensures) ∙ not-true _ (c .before .if1 .taken)) (c .refused .ensures)
 
--- src/session.rt:123:18
 cast-decode : tie.Need-cast-decode
 cast-decode c = omega (arith, ram-bound _ (sym (c .before .is-ram-length .ensures) ∙ not-false _ (c .if1 .left)))
 
--- src/session.rt:123:11
 decode-requires : tie.Need-decode-requires
 decode-requires c κs = search needs
 
--- src/session.rt:124:24
 enum-known-kind : tie.Need-enum-known-kind
 enum-known-kind c = search needs
 
--- src/session.rt:125:17
 act-requires : tie.Need-act-requires
 act-requires c κs =
     record {
@@ -51,33 +36,26 @@ act-requires c κs =
       step-sound = decoded-sound _ (c .before .before .before .before .before .before .before .before .before .before .before .args .session) _ _ (sym (c .before .before .before .before .before .decode .ensures) ∙ c .before .before .before .kind .given .1);
     }
 
--- src/session.rt:132:26
 encode-requires : tie.Need-encode-requires
 encode-requires c κs = search needs
 
--- src/session.rt:135:29
 enum-told : tie.Need-enum-told
 enum-told c = search needs
 
--- src/session.rt:135:29
 refused-requires-2 : tie.Need-refused-requires-2
 refused-requires-2 c κs = search needs
 
--- src/session.rt:116:1
 same-length : tie.Need-same-length
 same-length c = search needs
 
--- src/session.rt:116:1
 same-length-2 : tie.Need-same-length-2
 same-length-2 c = search needs
 
--- src/session.rt:116:1
 returns-2 : tie.Need-returns-2
 returns-2 c =
     good _ _ _ _ _ (sym (c .before .before .before .before .before .before .before .before .before .before .before .before .before .is-ram-length .ensures) ∙ not-false _ (c .before .before .before .before .before .before .before .before .before .before .before .before .if1 .left)) _ _ (sym (c .before .before .before .before .before .before .before .before .before .before .before .decode .ensures) ∙ c .before .before .before .before .before .before .before .before .before .kind .given .1)
     _ _ _ _ _ _ _ (c .before .before .before .before .before .act .ensures) (rw (c .encode .ensures) refl)
 
--- src/session.rt:116:1
 returns-3 : tie.Need-returns-3
 returns-3 c =
     bad-record _ _ _ _ _ (sym (c .before .before .before .before .before .is-ram-length .ensures) ∙ not-false _ (c .before .before .before .before .if1 .left)) (sym (c .before .before .before .decode .ensures) ∙ c .before .enum-told .given .1) (c .refused2 .ensures)

@@ -4,68 +4,49 @@ use Rattle.rom.proofs.Copies.{copied}
 use borrow.Author.Needs.{needs}
 use Rattle.rom.proofs.store.take_code.Statement.{statement}
 use Rattle.rom.proofs.store.take_code.Tie as tie
-use Rattle.rom.proofs.store.take_code.Reads as reads
-use Rattle.rom.proofs.store.take_code.Lts as lts
-use Rattle.memory.proofs.store.lay.Reads as lay-reads
-use Rattle.rom.proofs.store.least.Reads as least-reads
 
--- src/store.rt:21:24
 sub-least : tie.Need-sub-least
 sub-least c = search needs
 
--- src/store.rt:21:23
 cast-least : tie.Need-cast-least
 cast-least c = search needs
 
--- src/store.rt:21:49
 sub-least-2 : tie.Need-sub-least-2
 sub-least-2 c = search needs
 
--- src/store.rt:21:9
 least-requires : tie.Need-least-requires
 least-requires c κs = search needs
 
--- src/store.rt:22:15
 add-end : tie.Need-add-end
 add-end c = search needs
 
--- src/store.rt:23:24
 sub-lay : tie.Need-sub-lay
 sub-lay c = search needs
 
--- src/store.rt:23:24
 part-lay-start : tie.Need-part-lay-start
 part-lay-start c = search needs
 
--- src/store.rt:23:24
 part-lay-end : tie.Need-part-lay-end
 part-lay-end c = search needs
 
--- src/store.rt:23:43
 sub-lay-2 : tie.Need-sub-lay-2
 sub-lay-2 c = search needs
 
--- src/store.rt:23:43
 part-lay-start-2 : tie.Need-part-lay-start-2
 part-lay-start-2 c = search needs
 
--- src/store.rt:23:43
 part-lay-end-2 : tie.Need-part-lay-end-2
 part-lay-end-2 c = search needs
 
--- src/store.rt:23:5
 lay-requires : tie.Need-lay-requires
 lay-requires c κs = search needs
 
--- src/store.rt:24:5
 cast-result : tie.Need-cast-result
 cast-result c = search needs
 
--- src/store.rt:16:1
 same-length : tie.Need-same-length
 same-length c = search needs
 
--- src/store.rt:16:1
 returns : tie.Need-returns
 returns c =
     copied _ _ _ _ _ _ _ (c .before .before .before .before .before .before .before .before .pre) (c .before .before .before .before .before .least .ensures) (c .before .before .lay .ensures)
