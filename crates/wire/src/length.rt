@@ -19,7 +19,7 @@ pub const BAD_FLASH: u32 = 3;
 pub fn is_ram_length(length: usize) -> bool
     ensures { λ r. ⌜ r ≡ isRamLength length ⌝ }
 {
-    if length == 0 {
+    if length < 1 {
         return false;
     }
     length <= LARGEST_RAM
