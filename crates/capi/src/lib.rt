@@ -73,7 +73,7 @@ fn called_of(report: Report) -> Called
     }
 }
 
-// A fresh record of a receiver: kind 0 is P, 1 is E; any other is refused by the first call.
+// A fresh record of a receiver: kind 0 is P, 1 is E; calls refuse any other.
 #[no_mangle]
 pub extern "C" fn und_rom_fresh(kind: u32, words: &mut [u32; 8])
     ensures { λ _. ⌜ now (words .exit) ≡ wordsOf (freshRecord kind) ⌝ }

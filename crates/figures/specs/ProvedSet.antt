@@ -1,5 +1,5 @@
--- Figures of 01 that are marked * ("Figures on both sides"), as one table and one statement: those whose definitions stand, so far
--- versions, ids, the ROM receiver and CRCs.
+-- Figures of 01 that are marked * ("Figures on both sides"), as one table and one statement: those of versions, ids, the ROM receiver
+-- and CRCs.
 -- Assumes nothing.
 use Prim.Native.Nat.{ℕ, _-_}
 use mathlib.Core.Path.{_≡_}
@@ -13,9 +13,12 @@ use Rattle.version.specs.Order.{orderOf}
 use Rattle.image.specs.declared.Image.the-variants.{Valid}
 use Rattle.slot.specs.Slot.{chosen}
 use Rattle.machine.specs.Uncut.{uncut}
+use Rattle.machine.specs.Listing.{definitionOf}
 use Rattle.rom.specs.declared.kind.Kind.the-variants.{P, E}
 use Rattle.rom.specs.declared.step.Step.the-variants.{TakeCode, Running}
 use Rattle.rom.specs.Receiver.{fresh, receiver}
+use Rattle.rom.specs.Record.{written}
+use Rattle.rom.specs.Session.{rom}
 
 infix 10 _is_
 -- what a definition gives, and what 01 says
@@ -52,9 +55,9 @@ v65535-65535-6553 =
 abbrev digits : List ℕ
 digits = 0x31 ∷ 0x32 ∷ 0x33 ∷ 0x34 ∷ 0x35 ∷ 0x36 ∷ 0x37 ∷ 0x38 ∷ 0x39 ∷ []
 
--- the largest RAM
-abbrev largestRam : List ℕ
-largestRam = replicate 131072 0
+-- a RAM of the largest length
+abbrev wholeRam : List ℕ
+wholeRam = replicate 131072 0
 
 -- the images of the ids have one byte of code each
 abbrev pub provedSet : List Figure
@@ -67,12 +70,14 @@ provedSet =
     ∷ (chosen (Valid 9 1) (Valid 10 1) is record { number = 0; slot = 2 })
     ∷ (chosen (Valid 10 1) (Valid 9 1) is record { number = 0; slot = 1 })
     ∷ (chosen (Valid 7 1) (Valid 7 1) is record { number = 0; slot = 1 })
-    ∷ (uncut receiver (fresh E largestRam) (0x01 ∷ 0x00 ∷ 0x00 ∷ 0x00 ∷ 0x00 ∷ []) .final .step is TakeCode 65536 0)
-    ∷ (uncut receiver (fresh E largestRam) (0x01 ∷ 0x00 ∷ 0x00 ∷ 0x01 ∷ 0x00 ∷ []) .final .step is TakeCode 65537 0)
-    ∷ (uncut receiver (fresh P (replicate 4 0)) (0x01 ∷ 0x03 ∷ 0x00 ∷ 0x11 ∷ 0x22 ∷ 0x44 ∷ 0x06 ∷ []) is record {
+    ∷ (uncut receiver (fresh E wholeRam) (0x01 ∷ 0x00 ∷ 0x00 ∷ 0x00 ∷ 0x00 ∷ []) .final .step is TakeCode 65536 0)
+    ∷ (uncut receiver (fresh E wholeRam) (0x01 ∷ 0x00 ∷ 0x00 ∷ 0x01 ∷ 0x00 ∷ []) .final .step is TakeCode 65537 0)
+    ∷ (definitionOf rom (fresh P (replicate 4 0)) (0x01 ∷ 0x03 ∷ 0x00 ∷ 0x11 ∷ 0x22 ∷ 0x44 ∷ 0x06 ∷ []) is record {
       replies = 0x02 ∷ 0x06 ∷ 0x77 ∷ [];
       taken = 7;
-      final = record { kind = P; step = Running; reason = 0; ram = 0x11 ∷ 0x22 ∷ 0x44 ∷ 0x00 ∷ [] };
+      sent = 3;
+      session = written P Running 0;
+      memories = 0x11 ∷ 0x22 ∷ 0x44 ∷ 0x00 ∷ [];
     })
     ∷ (crcOf rule16 digits is 0x29B1)
     ∷ (crcOf rule32 digits is 0xCBF4_3926)

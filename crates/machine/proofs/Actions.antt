@@ -151,7 +151,7 @@ module _ {A S : Type 0} (m : Machine A S) where
     drain-send : (s : S) (takes : ℕ) → Sound s → m .need s ≡ acts 0 takes →
         drain m s ≡ join (acted (m .says s []) 0 (m .after s [])) (drain m (m .after s []))
     unfolding drain
-    drain-send s takes g e = rw (e, law .due-exact s takes g e)
+    drain-send s takes g e = rw (e, law .due-falls s takes g e)
 
     -- the uncut definition's fuel suffices too
     SameFeed : (k l : ℕ) → Type 0

@@ -7,3 +7,4 @@ pub mod Sessions
 pub mod Loops
 pub mod Lines
 pub mod Refusals
+pub mod Records

@@ -76,7 +76,7 @@ module _ {A S : Type 0} (need : S → Need) (took : S → A → S) (byte : S →
         stays-sound = line-kept Good (λ _ s. Sound s) (λ events s a e g h. by-take s a e g h) (λ events s e h. by-send s e h);
         takes-in-view = line-takes;
         moves = line-moves;
-        due-exact = λ s t g e. exact s g (sent-need s t e);
+        due-falls = λ s t g e. exact s g (sent-need s t e);
       }
     where
       sent-need : (s : S) (t : ℕ) → need s ≡ acts 0 t → need s ≡ machine.send

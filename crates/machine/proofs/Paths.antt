@@ -8,7 +8,7 @@ use mathlib.Core.Bool.{true, _&&_}
 use mathlib.Core.List.{List, [], _∷_}
 use lib.Dec.{leb}
 use lib.ListN.{length, take, drop, length-take, take-append-drop}
-use lib.Seq.{length-take-le, take-append-le, drop-append-le, drop-drop}
+use lib.Seq.{take-length, length-take-le, take-append-le, drop-append-le, drop-drop}
 use borrow.Author.Tests.{leb-true}
 use borrow.Table.Steps.{cases}
 use Rattle.wire.proofs.Tests.{both-true}
@@ -103,6 +103,15 @@ module _ {A S : Type 0} (m : Machine A S) {Good : A → Type 0} {Sound : S → T
       let front : Begins (take shown rest) rest = record { back = drop shown rest; is = sym (take-append-drop shown rest) } in
       acts-all (suc (length (take shown rest) + room)) o c (take shown rest) front room
 
+  pub at-start : Came m start stream (halt start)
+  at-start = record { events = []; path = here }
+
+  -- what every action keeps, a call keeps
+  pub call-keeps : {P : S → Type 0} → Kept m Good (λ _ s. P s) → Every Good stream → P start → (room : ℕ) → P (call m start stream room .final)
+  call-keeps k w h room =
+      let c = call-came (halt start) at-start (length stream) room in
+      path-keeps k w h (rw (take-length stream, halt-join start (call m start stream room)) at c .path)
+
   -- and so does a list of calls
   pub calls-came : (cs : List Call) (o : Outcome S) → Came m start stream o → Came m start stream (join o (calls m (o .final) (drop (o .taken) stream) cs))
   unfolding calls
@@ -114,9 +123,6 @@ module _ {A S : Type 0} (m : Machine A S) {Good : A → Type 0} {Sound : S → T
       let on = calls-came cs (join o p) (call-came o c shown room) in
       let same : drop (o .taken + p .taken) stream ≡ drop (p .taken) rest = sym (drop-drop (p .taken) (o .taken) stream) in
       subst (λ (x : Outcome S). Came m start stream x) (join-assoc o p (calls m (p .final) (drop (p .taken) rest) cs)) (rw same at on)
-
-  pub at-start : Came m start stream (halt start)
-  at-start = record { events = []; path = here }
 
   -- the uncut definition goes on from the end of every path
   pub path-continues : Sound start → Every Good stream → {events : List (Event A S)} {o : Outcome S} → Path m start stream events o →

@@ -1,15 +1,14 @@
--- A refused call hands back the record as it was given, in words too.
+-- What a refused call hands back, and what an accepted one went by.
 -- Assumes nothing.
-use Prim.Native.Nat.{ℕ, suc, _<_, _≤_}
+use Prim.Native.Nat.{ℕ}
 use native.Mathlib.Omega.{arith}
-use mathlib.Core.Path.{_≡_, refl, ap, _∙_}
+use mathlib.Core.Path.{_≡_, refl}
 use mathlib.Core.Bool.{Bool, true, false, cond}
-use mathlib.Core.List.{List, [], _∷_}
+use mathlib.Core.List.{List}
 use lib.Dec.{eqb}
-use lib.ListN.{length, drop, getD, drop-of-length-le}
-use lib.Seq.{drop-cons}
+use borrow.Author.Tests.{eqb-true, eqb-false}
+use borrow.Table.Steps.{cases}
 use Rattle.machine.specs.Session.{Session, Read, sound, unsound, refused, accepted, readAnswer, answerOf}
-use Rattle.machine.specs.Words.{recordOf, wordsOf}
 use Rattle.machine.specs.declared.Record.{Record}
 
 pub refused-keeps : {M S : Type 0} (σ : Session M S) (r : Record) (mem : M) (input reply : List ℕ) →
@@ -24,12 +23,18 @@ refused-keeps σ r mem input reply h = go (eqb (σ .refusal mem) 0) (σ .read r 
     go true unsound h = refl
     go false s h = refl
 
--- eight words are those of the record that they make
-pub words-back : (words : List ℕ) → length words ≡ 8 → words ≡ wordsOf (recordOf words)
-words-back words l = at 0 (at 1 (at 2 (at 3 (at 4 (at 5 (at 6 (at 7 none (omega arith)) (omega arith)) (omega arith)) (omega arith)) (omega arith)) (omega arith)) (omega arith)) (omega arith)
-  where
-    none : drop 8 words ≡ []
-    none = let h : length words ≤ 8 = omega arith in drop-of-length-le words h
+-- what an accepted call went by
+pub record Accepts {M S : Type 0} (σ : Session M S) (r : Record) (mem : M) (input reply : List ℕ) : Type 0 where
+  pub state : S
+  pub fits : σ .refusal mem ≡ 0
+  pub read-is : σ .read r mem ≡ sound state
+  pub answer-is : answerOf σ r mem input reply ≡ accepted σ state input reply
 
-    at : (i : ℕ) {rest : List ℕ} → drop (suc i) words ≡ rest → i < length words → drop i words ≡ getD words i 0 ∷ rest
-    at i e h = drop-cons words i 0 h ∙ ap (λ (r : List ℕ). getD words i 0 ∷ r) e
+pub accepts : {M S : Type 0} (σ : Session M S) (r : Record) (mem : M) (input reply : List ℕ) → answerOf σ r mem input reply .report .number ≡ 0 →
+    Accepts σ r mem input reply
+unfolding answerOf
+accepts {M} {S} σ r mem input reply e = cases (eqb (σ .refusal mem) 0) (λ t. reads t (σ .read r mem) refl) (λ f. absurd (eqb-false _ _ f (rw f at e)))
+  where
+    reads : eqb (σ .refusal mem) 0 ≡ true → (d : Read S) → σ .read r mem ≡ d → Accepts σ r mem input reply
+    reads t (sound s) q = record { state = s; fits = eqb-true _ _ t; read-is = q; answer-is = rw (t, q) refl }
+    reads t unsound q = absurd (let z : _≡_ {A = ℕ} 4 0 = rw (t, q) at e in omega arith)

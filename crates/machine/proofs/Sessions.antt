@@ -12,7 +12,6 @@ use borrow.Table.Steps.{cases}
 use Rattle.machine.specs.Machine.{Need, acts, runs, Machine}
 use Rattle.machine.specs.Outcome.{Outcome, halt, join}
 use Rattle.machine.specs.Call.{Call, offered, standing, call, calls}
-use Rattle.machine.specs.Uncut.{uncut}
 use Rattle.machine.specs.History.{Event, Came}
 use Rattle.machine.specs.Lawful.{Every}
 use Rattle.machine.specs.Claim.{Stopped}
@@ -20,7 +19,7 @@ use Rattle.machine.specs.Session.{Session, Answer, refused, accepted, an
 use Rattle.machine.specs.SessionLaws.{Byte, Faithful}
 use Rattle.machine.specs.Listing.{Lent, totals, answers, given, Made, none, next}
 use Rattle.machine.specs.SessionClaim as claim
-use Rattle.machine.specs.SessionClaim.{TookAll, Follows, Claim}
+use Rattle.machine.specs.SessionClaim.{TookAll, Follows, Claim, MadeClaim}
 use Rattle.machine.specs.declared.Record.{Record}
 use Rattle.machine.proofs.Outcomes.{halt-join}
 use Rattle.machine.proofs.Actions.{call-run, call-short, call-full}
@@ -103,9 +102,6 @@ module _ {M S : Type 0} (σ : Session M S) {Told : List (Event ℕ S) → S → 
         rw (answer-is (o .final) (came-sound o c) input (l .reply)) (refl, rw (← drop-drop (p .taken) (o .taken) stream) at ih)
 
     module _ (o : Outcome S) (c : Came m start stream o) where
-      u : Outcome S
-      u = uncut m start stream
-
       -- a session that waits for a byte with all taken, or runs code, has stopped
       waits-stopped : o .taken ≡ length stream → answerOf σ (σ .write (o .final)) (σ .memories (o .final)) [] [] .report .standing ≡ 1 →
           Stopped m (o .final) (drop (o .taken) stream)
@@ -148,7 +144,6 @@ module _ {M S : Type 0} (σ : Session M S) {Told : List (Event ℕ S) → S → 
               (λ t. absurd (not-1 2 (rw (f, t) at e) (omega arith)))
 
       follows : Told [] start → Follows σ Told start stream (given σ o)
-      unfolding u
       follows first =
           let h = came-holds m (law .lawful) start good stream w o c in
           let b = h .replies-begin in
@@ -181,3 +176,7 @@ module _ {M S : Type 0} (σ : Session M S) {Told : List (Event ℕ S) → S → 
             let same = rw (law .fresh-memories mem) at (totals-are s g stream w cs (halt s) (at-start m (law .lawful) s stream)) in
             rw same (follows s g stream w (calls m s stream (map callOf cs)) came′ (law .told-first mem));
       }
+
+  -- and about what a program's calls gave back
+  pub made-claim : MadeClaim σ Told fresh
+  made-claim mem stream w cs given made = rw (made-answers σ made) (session-claim mem stream w cs)

@@ -14,7 +14,7 @@ use borrow.Table.Steps.{cases}
 use Rattle.wire.proofs.Tests.{both-true}
 use Rattle.machine.specs.Machine.{Need, acts, runs, Machine}
 use Rattle.machine.specs.Outcome.{Outcome, halt, acted, join}
-use Rattle.machine.specs.Call.{act, call}
+use Rattle.machine.specs.Call.{act, call, Blocked}
 use Rattle.machine.specs.Uncut.{drainAt, drain, feed, uncut}
 use Rattle.machine.specs.Lawful.{Every, Moves, takes-one, sends-one, stops, Lawful}
 use Rattle.machine.specs.Claim.{Stopped, waits, running}
@@ -39,25 +39,18 @@ module _ {A S : Type 0} (m : Machine A S) where
       go (acts views takes) e =
           cases (ltb (length left) views) (λ t. waits (rw (e, t) refl)) (λ f. absurd (h views takes e (ltb-false _ _ f)))
 
-  -- what a call's outcome says of itself: it keeps to its input and its room, and an action that it left has no room
-  pub record Blocked (inp : List A) (room : ℕ) (o : Outcome S) : Type 0 where
-    pub within : o .taken ≤ length inp
-    pub fits : length (o .replies) ≤ room
-    pub full : (views takes : ℕ) → m .need (o .final) ≡ acts views takes → views ≤ length (drop (o .taken) inp) →
-        room < length (o .replies) + length (m .says (o .final) (take views (drop (o .taken) inp)))
-
-  halt-runs : (s : S) (inp : List A) (room : ℕ) → m .need s ≡ runs → Blocked inp room (halt s)
+  halt-runs : (s : S) (inp : List A) (room : ℕ) → m .need s ≡ runs → Blocked m inp room (halt s)
   halt-runs s inp room e = record { within = omega arith; fits = omega arith; full = λ v t f h. absurd (not-both v t (sym e ∙ f)) }
 
   module _ {Good : A → Type 0} {Sound : S → Type 0} (law : Lawful m Good Sound) where
     AllBlocked : (fuel : ℕ) → Type 0
-    AllBlocked fuel = (s : S) (inp : List A) (room : ℕ) → length inp + room < fuel → Blocked inp room (act m fuel (m .need s) s inp room)
+    AllBlocked fuel = (s : S) (inp : List A) (room : ℕ) → length inp + room < fuel → Blocked m inp room (act m fuel (m .need s) s inp room)
 
     blocked-more : (k : ℕ) → AllBlocked k → AllBlocked (suc k)
     unfolding AllBlocked act
     blocked-more k ih s inp room h = go (m .need s) refl
       where
-        go : (n : Need) → m .need s ≡ n → Blocked inp room (act m (suc k) n s inp room)
+        go : (n : Need) → m .need s ≡ n → Blocked m inp room (act m (suc k) n s inp room)
         go runs e = halt-runs s inp room e
         go (acts views takes) e = cases (leb views (length inp) && leb (length said) room) (λ t. rw t (passes t)) (λ f. rw f (stays f))
           where
@@ -72,19 +65,19 @@ module _ {A S : Type 0} (m : Machine A S) where
 
             -- the rest of the call, with its input and room, is blocked
             Later : Type 0
-            Later = Blocked (drop takes inp) (room - length said) (act m k (m .need next) next (drop takes inp) (room - length said))
+            Later = Blocked m (drop takes inp) (room - length said) (act m k (m .need next) next (drop takes inp) (room - length said))
 
             later : Moves m s view views takes → views ≤ length inp → length said ≤ room → Later
             later (takes-one p) shown fits = ih next (drop takes inp) (room - length said) (omega (arith, law .takes-in-view s views takes e, length-drop takes inp))
             later (sends-one p q) shown fits = ih next (drop takes inp) (room - length said) (omega (arith, law .takes-in-view s views takes e, length-drop takes inp))
             later (stops p) shown fits = rw p (over k)
               where
-                over : (k : ℕ) → Blocked (drop takes inp) (room - length said) (act m k runs next (drop takes inp) (room - length said))
+                over : (k : ℕ) → Blocked m (drop takes inp) (room - length said) (act m k runs next (drop takes inp) (room - length said))
                 over zero = halt-runs next (drop takes inp) (room - length said) p
                 over (suc k) = halt-runs next (drop takes inp) (room - length said) p
 
             passes : (leb views (length inp) && leb (length said) room) ≡ true →
-                Blocked inp room (join (acted said takes next) (act m k (m .need next) next (drop takes inp) (room - length said)))
+                Blocked m inp room (join (acted said takes next) (act m k (m .need next) next (drop takes inp) (room - length said)))
             passes t =
                 let shown : views ≤ length inp = leb-true _ _ (both-true (leb views (length inp)) (leb (length said) room) t .0) in
                 let fits : length said ≤ room = leb-true _ _ (both-true (leb views (length inp)) (leb (length said) room) t .1) in
@@ -100,7 +93,7 @@ module _ {A S : Type 0} (m : Machine A S) where
                       omega (arith, q, sum);
                 }
 
-            stays : (leb views (length inp) && leb (length said) room) ≡ false → Blocked inp room (halt s)
+            stays : (leb views (length inp) && leb (length said) room) ≡ false → Blocked m inp room (halt s)
             stays f =
                 record {
                   within = omega arith;
@@ -121,17 +114,17 @@ module _ {A S : Type 0} (m : Machine A S) where
     blocked-all zero s inp room h = absurd (let z : ⊥ = omega arith in z)
     blocked-all (suc k) s inp room h = blocked-more k (blocked-all k) s inp room h
 
-    pub call-blocked : (s : S) (inp : List A) (room : ℕ) → Blocked inp room (call m s inp room)
+    pub call-blocked : (s : S) (inp : List A) (room : ℕ) → Blocked m inp room (call m s inp room)
     unfolding AllBlocked call
     call-blocked s inp room = blocked-all (suc (length inp + room)) s inp room (omega arith)
 
     -- once what is due is sent, the next action has something in view
     settled-at : (k : ℕ) (n : Need) (s : S) → Sound s → m .need s ≡ n → m .due s ≡ k → (takes : ℕ) → m .need (drainAt m k n s .final) ≡ acts 0 takes → ⊥
-    settled-at zero n s g e d takes f = omega (arith, law .due-exact s takes g f)
+    settled-at zero n s g e d takes f = omega (arith, law .due-falls s takes g f)
     settled-at (suc k) runs s g e d takes f = not-both 0 takes (sym e ∙ f)
     settled-at (suc k) (acts (suc views) t) s g e d takes f = let z : suc views ≡ 0 = ap viewsOf (sym e ∙ f) in omega arith
     settled-at (suc k) (acts zero t) s g e d takes f =
-        settled-at k (m .need (m .after s [])) (m .after s []) (law .stays-sound [] s [] 0 t e refl tt g) refl (omega (arith, law .due-exact s t g e)) takes f
+        settled-at k (m .need (m .after s [])) (m .after s []) (law .stays-sound [] s [] 0 t e refl tt g) refl (omega (arith, law .due-falls s t g e)) takes f
 
     drain-sound-at : (k : ℕ) (n : Need) (s : S) → Sound s → m .need s ≡ n → Sound (drainAt m k n s .final)
     drain-sound-at zero n s g e = g

@@ -1,6 +1,7 @@
 -- A call, and a list of calls to one session (01, "Memories and the record": a call acts until it is blocked; "Demand 3": a list).
 -- Assumes nothing.
-use Prim.Native.Nat.{ℕ, zero, suc, _+_, _-_}
+use Prim.Native.Nat.{ℕ, zero, suc, _+_, _-_, _≤_, _<_}
+use mathlib.Core.Path.{_≡_}
 use mathlib.Core.Bool.{cond, _&&_}
 use mathlib.Core.List.{List, [], _∷_}
 use lib.Dec.{leb, ltb}
@@ -34,9 +35,17 @@ module _ {A S : Type 0} (m : Machine A S) where
       (join (acted said takes next) (act fuel (m .need next) next (drop takes input) (room - length said)))
       (halt s)
 
-  -- each action takes a symbol, sends a byte or is the last one, so this many suffice
+  -- each action of a lawful machine takes a symbol, sends a byte or is the last one, so this many suffice
   unfoldable pub call : S → (input : List A) (room : ℕ) → Outcome S
   call s input room = act (suc (length input + room)) (m .need s) s input room
+
+  -- what a lawful machine's call must satisfy: it keeps to its input and its room, and an action that it left undone lacks symbols or
+  -- room
+  pub record Blocked (input : List A) (room : ℕ) (o : Outcome S) : Type 0 where
+    pub within : o .taken ≤ length input
+    pub fits : length (o .replies) ≤ room
+    pub full : (views takes : ℕ) → m .need (o .final) ≡ acts views takes → views ≤ length (drop (o .taken) input) →
+        room < length (o .replies) + length (m .says (o .final) (take views (drop (o .taken) input)))
 
   -- a list of calls, where `rest` is the part of the stream not yet taken
   unfoldable pub calls : S → (rest : List A) → List Call → Outcome S

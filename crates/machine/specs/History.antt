@@ -1,4 +1,4 @@
--- What happened on the way: the actions of a machine in order. No action reads them.
+-- What happened on the way: the actions of a machine. No action reads them.
 -- Assumes nothing.
 use Prim.Native.Nat.{ℕ}
 use mathlib.Core.Path.{_≡_}

@@ -1,5 +1,5 @@
--- What a machine must keep to. Its bound on the actions that follow one another with nothing in view must be exact: one too
--- small would drop replies without a word.
+-- What a machine must keep to. Its count of the actions that follow one another with nothing in view falls by one with each of
+-- them: a count that is too small would drop replies without a word.
 -- Assumes nothing.
 use Prim.Native.Nat.{ℕ, suc, _≤_, _<_}
 use mathlib.Core.Path.{_≡_}
@@ -29,4 +29,4 @@ module _ {A S : Type 0} (m : Machine A S) (Good : A → Type 0) where
     pub stays-sound : Kept (λ _ s. Sound s)
     pub takes-in-view : (s : S) (views takes : ℕ) → m .need s ≡ acts views takes → takes ≤ views
     pub moves : (s : S) (view : List A) (views takes : ℕ) → m .need s ≡ acts views takes → length view ≡ views → Moves m s view views takes
-    pub due-exact : (s : S) (takes : ℕ) → Sound s → m .need s ≡ acts 0 takes → m .due s ≡ suc (m .due (m .after s []))
+    pub due-falls : (s : S) (takes : ℕ) → Sound s → m .need s ≡ acts 0 takes → m .due s ≡ suc (m .due (m .after s []))

@@ -5,6 +5,7 @@ use mathlib.Core.Path.{_≡_}
 use mathlib.Core.List.{List, [], _∷_, _++_}
 use lib.ListN.{length, take, drop}
 use Rattle.machine.specs.Outcome.{Outcome}
+use Rattle.machine.specs.Uncut.{uncut}
 use Rattle.machine.specs.Session.{Session, Answer, answerOf}
 use Rattle.machine.specs.declared.Record.{Record}
 
@@ -21,7 +22,8 @@ pub record Given (M : Type 0) : Type 0 where
   pub session : Record
   pub memories : M
 
--- the sent bytes of all calls in call order, the counts added up, and the last record and memories
+-- a list's totals: 01's joined replies (the sent bytes of all calls in call order), its total counts (the calls' counts added up),
+-- and the last record and memories
 abbrev pub totals : {M : Type 0} → Record → M → List (Answer M) → Given M
 totals session mem [] = record { replies = []; taken = 0; sent = 0; session = session; memories = mem }
 totals session mem (a ∷ later) =
@@ -42,7 +44,7 @@ module _ {M S : Type 0} (σ : Session M S) where
       let a = answerOf σ session mem (take (c .shown) rest) (c .reply) in
       a ∷ answers (a .report .session) (a .memories) (drop (a .report .taken) rest) later
 
-  -- the same of an outcome of the machine
+  -- an outcome of the machine, as the caller would see it
   abbrev pub given : Outcome S → Given M
   given o =
       record {
@@ -52,6 +54,11 @@ module _ {M S : Type 0} (σ : Session M S) where
         session = σ .write (o .final);
         memories = σ .memories (o .final);
       }
+
+  -- what the definition gives for the uncut stream, from a state on (01: its replies, its memories, how many bytes it took and sent,
+  -- and a record)
+  abbrev pub definitionOf : S → (stream : List ℕ) → Given M
+  definitionOf start stream = given (uncut (σ .machine) start stream)
 
   -- what a program's calls gave back, each as the definition says, with the record and the memories that the one before it left
   pub data Made : Record → M → (rest : List ℕ) → List Lent → List (Answer M) → Type 0 where

@@ -1,12 +1,18 @@
 -- A session as a deterministic machine over input symbols A and states S (01, "Demand 3": a send, a take, code that runs).
 -- Assumes nothing.
 use Prim.Native.Nat.{ℕ}
+use mathlib.Core.Bool.{Bool, true, false}
 use mathlib.Core.List.{List, [], _∷_}
 
 -- what the next action asks: so many symbols in view, of which it takes so many; or that there is none, since code runs
 pub data Need : Type 0 where
   acts : (views takes : ℕ) → Need
   runs : Need
+
+-- code runs
+abbrev pub isRunning : Need → Bool
+isRunning (acts views takes) = false
+isRunning runs = true
 
 pub record Machine (A S : Type 0) : Type 0 where
   pub need : S → Need

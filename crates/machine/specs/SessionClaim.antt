@@ -4,13 +4,12 @@ use Prim.Native.Nat.{ℕ, _+_, _≤_}
 use mathlib.Core.Path.{_≡_}
 use mathlib.Core.List.{List, [], map}
 use lib.ListN.{length, take, drop}
-use Rattle.machine.specs.Uncut.{uncut}
 use Rattle.machine.specs.History.{Event, Path, Came}
 use Rattle.machine.specs.Lawful.{Every}
 use Rattle.machine.specs.Claim.{Begins}
 use Rattle.machine.specs.Session.{Session, Answer, refused, answerOf}
 use Rattle.machine.specs.SessionLaws.{Byte}
-use Rattle.machine.specs.Listing.{Lent, Given, totals, answers, given}
+use Rattle.machine.specs.Listing.{Lent, Given, totals, answers, definitionOf, Made}
 
 -- a call that took all it was shown and then waits for a byte, unless code runs
 pub data TookAll {M : Type 0} (input : List ℕ) (a : Answer M) : Type 0 where
@@ -19,19 +18,16 @@ pub data TookAll {M : Type 0} (input : List ℕ) (a : Answer M) : Type 0 where
 
 -- Told: what the events on the way say of the state that they led to
 module _ {M S : Type 0} (σ : Session M S) (Told : List (Event ℕ S) → S → Type 0) (start : S) (stream : List ℕ) where
-  abbrev definition : Given M
-  definition = given σ (uncut (σ .machine) start stream)
-
-  -- g are the totals of a list of calls; all its calls were accepted
+  -- g are the totals of a list of calls that were all accepted
   pub record Follows (g : Given M) : Type 0 where
-    pub replies-begin : Begins (g .replies) (definition .replies)
-    pub taken-within : g .taken ≤ definition .taken
-    pub sent-within : g .sent ≤ definition .sent
+    pub replies-begin : Begins (g .replies) (definitionOf σ start stream .replies)
+    pub taken-within : g .taken ≤ definitionOf σ start stream .taken
+    pub sent-within : g .sent ≤ definitionOf σ start stream .sent
     -- all is taken and the session waits for a byte, or code runs, by what a call with no input and no room would report
-    pub all-taken : g .taken ≡ length stream → answerOf σ (g .session) (g .memories) [] [] .report .standing ≡ 1 → g ≡ definition
-    pub code-runs : answerOf σ (g .session) (g .memories) [] [] .report .standing ≡ 3 → g ≡ definition
+    pub all-taken : g .taken ≡ length stream → answerOf σ (g .session) (g .memories) [] [] .report .standing ≡ 1 → g ≡ definitionOf σ start stream
+    pub code-runs : answerOf σ (g .session) (g .memories) [] [] .report .standing ≡ 3 → g ≡ definitionOf σ start stream
     -- the next call, with room for the replies that are still missing
-    pub enough-room : (shown : ℕ) (reply : List ℕ) → definition .sent ≤ g .sent + length reply →
+    pub enough-room : (shown : ℕ) (reply : List ℕ) → definitionOf σ start stream .sent ≤ g .sent + length reply →
         let input = take shown (drop (g .taken) stream) in
         TookAll input (answerOf σ (g .session) (g .memories) input reply)
     -- the state that the list has come to, by actions of the machine, and what they say of it
@@ -41,17 +37,22 @@ module _ {M S : Type 0} (σ : Session M S) (Told : List (Event ℕ S) → S → 
     pub told : (events : List (Event ℕ S)) →
         Path (σ .machine) start stream events (record { replies = g .replies; taken = g .taken; final = reached }) → Told events reached
 
--- for every memories, stream of bytes and list of calls, from the fresh record of a session that starts at `fresh`
-pub record Holds {M S : Type 0} (σ : Session M S) (Told : List (Event ℕ S) → S → Type 0) (fresh : M → S) (mem : M) (stream : List ℕ)
-    (cs : List Lent) : Type 0 where
-  -- refused lengths: every call is refused with their number and changes nothing
-  pub refused-lengths : (σ .refusal mem ≡ 0 → ⊥) →
-      answers σ (σ .write (fresh mem)) mem stream cs ≡ map (λ (c : Lent). refused (σ .refusal mem) (σ .write (fresh mem)) (c .reply) mem) cs
-  -- else no call is refused, and the list follows the definition
-  pub no-refusal : σ .refusal mem ≡ 0 → Every (λ (a : Answer M). a .report .number ≡ 0) (answers σ (σ .write (fresh mem)) mem stream cs)
-  pub follows : σ .refusal mem ≡ 0 →
-      Follows σ Told (fresh mem) stream (totals (σ .write (fresh mem)) mem (answers σ (σ .write (fresh mem)) mem stream cs))
+module _ {M S : Type 0} (σ : Session M S) (Told : List (Event ℕ S) → S → Type 0) (fresh : M → S) where
+  -- these are the answers to a list of calls from a fresh record, with memories as first lent
+  pub record Holds (mem : M) (stream : List ℕ) (cs : List Lent) (given : List (Answer M)) : Type 0 where
+    -- refused lengths: every call is refused with their number and changes nothing
+    pub refused-lengths : (σ .refusal mem ≡ 0 → ⊥) → given ≡ map (λ (c : Lent). refused (σ .refusal mem) (σ .write (fresh mem)) (c .reply) mem) cs
+    -- else no call is refused, and the list follows the definition
+    pub no-refusal : σ .refusal mem ≡ 0 → Every (λ (a : Answer M). a .report .number ≡ 0) given
+    pub follows : σ .refusal mem ≡ 0 → Follows σ Told (fresh mem) stream (totals (σ .write (fresh mem)) mem given)
 
-abbrev pub Claim : {M S : Type 0} → Session M S → (Told : List (Event ℕ S) → S → Type 0) → (fresh : M → S) → Type 0
-Claim {M} σ Told fresh =
-    (mem : M) (stream : List ℕ) → Every Byte stream → (cs : List Lent) → Holds σ Told fresh mem stream cs
+  -- for all memories, every stream of bytes and every list of calls, each call being the definition's
+  abbrev pub Claim : Type 0
+  Claim =
+      (mem : M) (stream : List ℕ) → Every Byte stream → (cs : List Lent) → Holds mem stream cs (answers σ (σ .write (fresh mem)) mem stream cs)
+
+  -- the same of what a program's calls gave back
+  abbrev pub MadeClaim : Type 0
+  MadeClaim =
+      (mem : M) (stream : List ℕ) → Every Byte stream → (cs : List Lent) (given : List (Answer M)) → Made σ (σ .write (fresh mem)) mem stream cs given →
+      Holds mem stream cs given

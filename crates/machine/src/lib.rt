@@ -7,7 +7,7 @@ pub mod words;
 // The number given for an unsound record.
 pub const BAD_RECORD: u32 = 4;
 
-// What the caller keeps of a session between calls. Numbers that a phase does not use are 0.
+// What the caller keeps of a session between calls. An accepted call hands out 0 for the numbers that a phase does not use.
 pub struct Record {
     pub kind: u32,
     pub phase: u32,

@@ -12,7 +12,7 @@ use borrow.Rule.Slice.PartMut.{midOf, putMid}
 use Rattle.memory.specs.Store.{laid}
 use Rattle.memory.proofs.Stores.{laid-part}
 use Rattle.rom.specs.Ask.{xorFrom}
-use Rattle.rom.specs.Stored.{Copied}
+use Rattle.rom.specs.Copied.{Copied}
 
 -- one more byte of the first n
 pub xor-more : (l : List ℕ) (n i x : ℕ) → i < n → n ≤ length l → xorFrom (bitXor x (getD l i 0)) (drop (i + 1) (take n l)) ≡ xorFrom x (drop i (take n l))

@@ -5,7 +5,6 @@ use mathlib.Core.Path.{_≡_, refl}
 use mathlib.Core.List.{List}
 use lib.ListN.{length, length-set}
 use Rattle.machine.specs.Lawful.{Lawful}
-use Rattle.machine.specs.SessionLaws.{Byte}
 use Rattle.machine.proofs.Lines.{Line, takes, sends, ends, line-lawful}
 use Rattle.rom.specs.declared.step.Ask.{Ask}
 use Rattle.rom.specs.declared.step.Ask.the-variants.{TakeByte, TakeCode, Send, Halt}
@@ -17,7 +16,7 @@ use Rattle.rom.proofs.Steps.{sound-took, sound-sent, due-sent}
 ask-line : (a : Ask) → Line (needOf a)
 ask-line TakeByte = takes refl
 ask-line (TakeCode length place) = takes refl
-ask-line (Send word) = sends refl
+ask-line (Send output) = sends refl
 ask-line Halt = ends refl
 
 pub is-line : (s : State) → Line (need s)
@@ -27,7 +26,7 @@ is-line s = ask-line (askOf (s .step))
 pub stored-length : (a : Ask) (b : ℕ) (ram : List ℕ) → length (stored a b ram) ≡ length ram
 stored-length TakeByte b ram = refl
 stored-length (TakeCode length place) b ram = length-set ram place b
-stored-length (Send word) b ram = refl
+stored-length (Send output) b ram = refl
 stored-length Halt b ram = refl
 
 pub took-sound : (s : State) (b : ℕ) → Sound s → Sound (took s b)
@@ -42,9 +41,9 @@ took-sound s b g =
 pub sent-sound : (s : State) → Sound s → Sound (sent s)
 sent-sound s g = record { fits = g .fits; step-sound = sound-sent (s .kind) (length (s .ram)) (s .step) (g .step-sound) }
 
-pub lawful : Lawful receiver Byte Sound
-lawful =
-    line-lawful need took byte sent due is-line Byte Sound (λ s b e w g. took-sound s b g) (λ s e g. sent-sound s g) (λ s g e. due-sent (s .step) e)
+pub lawful : (Good : ℕ → Type 0) → Lawful receiver Good Sound
+lawful Good =
+    line-lawful need took byte sent due is-line Good Sound (λ s b e w g. took-sound s b g) (λ s e g. sent-sound s g) (λ s g e. due-sent (s .step) e)
 
 -- any state at all
 pub lawful-any : Lawful receiver (λ (b : ℕ). Unit {0}) (λ (s : State). Unit {0})

@@ -4,4 +4,5 @@ pub mod Laws
 pub mod Turns
 pub mod Records
 pub mod Calls
+pub mod Reached
 pub mod Claims

@@ -16,14 +16,14 @@ use Rattle.rom.specs.declared.step.Ask.the-variants as ask
 use Rattle.rom.specs.declared.step.Progress.{Progress}
 use Rattle.rom.specs.Flow.{judged, zeroLength, headed, codeStep, took, sent, due}
 use Rattle.rom.specs.Ask.{askOf, needOf}
-use Rattle.rom.specs.Stored.{InRam}
+use Rattle.rom.specs.Copied.{InRam}
 use Rattle.rom.specs.Sound.{SoundStep}
 
 -- what an ask speaks of lies in a RAM of `size` bytes
 abbrev pub InAsk : Ask → (size : ℕ) → Type 0
 InAsk ask.TakeByte size = Unit {0}
 InAsk (ask.TakeCode length place) size = (place < length) × (length ≤ size)
-InAsk (ask.Send word) size = InRam word size
+InAsk (ask.Send output) size = InRam output size
 InAsk ask.Halt size = Unit {0}
 
 asks-inside : (kind : Kind) (size : ℕ) (s : Step) → SoundStep kind size s → InAsk (askOf s) size

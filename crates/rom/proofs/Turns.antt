@@ -15,16 +15,16 @@ use Rattle.machine.proofs.Loops.{Reached, reached-start, reached-take, reached-
 use Rattle.rom.specs.declared.kind.Kind.{Kind}
 use Rattle.rom.specs.declared.step.Step.{Step}
 use Rattle.rom.specs.declared.step.Step.the-variants as step
-use Rattle.rom.specs.declared.step.Word.{Word}
+use Rattle.rom.specs.declared.step.Output.{Output}
 use Rattle.rom.specs.declared.step.Ask.{Ask}
 use Rattle.rom.specs.declared.step.Ask.the-variants.{TakeByte, TakeCode, Send, Halt}
 use Rattle.rom.specs.declared.step.Progress.{Progress}
 use Rattle.rom.specs.Flow as flow
-use Rattle.rom.specs.Ask.{askOf, needOf, wordOf}
+use Rattle.rom.specs.Ask.{askOf, needOf, outputOf}
 use Rattle.rom.specs.Receiver.{took, sent, receiver}
 use Rattle.rom.specs.Session.{state}
 use Rattle.rom.specs.Sound.{Ready}
-use Rattle.rom.specs.Stored.{Copied}
+use Rattle.rom.specs.Copied.{Copied}
 use Rattle.rom.proofs.Steps.{ask-inside, asks-code, InAsk}
 use Rattle.rom.proofs.Laws.{lawful-any, took-sound, sent-sound, stored-length}
 
@@ -64,10 +64,10 @@ module _ {kind : Kind} {first : Step} {reason₀ : ℕ} {ram₀ input old : List
       unfolding took
       took-turn f h after q = rw q (rw (t .same-ram, ← e, f) at (takes (need TakeByte f) h))
 
-      pub sent-turn : (word : Word) → a ≡ Send word → j < length reply → (b : ℕ) → b ≡ wordOf word ram → (next : Step) → next ≡ flow.sent s →
+      pub sent-turn : (output : Output) → a ≡ Send output → j < length reply → (b : ℕ) → b ≡ outputOf output ram → (next : Step) → next ≡ flow.sent s →
           Turn kind first reason₀ ram₀ input old next last ram (set reply j b) i (j + 1)
-      sent-turn word f h b p next q =
-          let r = reached-send _ _ _ _ _ lawful-any (t .reached) (need (Send word) f) h in
+      sent-turn output f h b p next q =
+          let r = reached-send _ _ _ _ _ lawful-any (t .reached) (need (Send output) f) h in
           let r′ = rw (← e, f, ← p, ← q) at r in
           record { reached = r′; same-ram = t .same-ram; ready = rw q (sent-sound (state kind s last ram) (t .ready)) }
 
@@ -77,8 +77,8 @@ module _ {kind : Kind} {first : Step} {reason₀ : ℕ} {ram₀ input old : List
       pub hungry-code : (n p : ℕ) → a ≡ TakeCode n p → length input ≤ i → Acted receiver (state kind first reason₀ ram₀) input old i j 1 (state kind s last ram) reply
       hungry-code n p f h = acted-hungry _ _ _ _ _ lawful-any (t .reached) (need (TakeCode n p) f) h
 
-      pub choked : (word : Word) → a ≡ Send word → length reply ≤ j → Acted receiver (state kind first reason₀ ram₀) input old i j 2 (state kind s last ram) reply
-      choked word f h = acted-choked _ _ _ _ _ lawful-any (t .reached) (need (Send word) f) h
+      pub choked : (output : Output) → a ≡ Send output → length reply ≤ j → Acted receiver (state kind first reason₀ ram₀) input old i j 2 (state kind s last ram) reply
+      choked output f h = acted-choked _ _ _ _ _ lawful-any (t .reached) (need (Send output) f) h
 
       pub halts : a ≡ Halt → Acted receiver (state kind first reason₀ ram₀) input old i j 3 (state kind s last ram) reply
       halts f = acted-runs receiver _ input old _ i j reply (t .reached) (need Halt f)

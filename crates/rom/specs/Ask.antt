@@ -9,8 +9,8 @@ use Rattle.machine.specs.Machine as machine
 use Rattle.rom.specs.declared.step.Step.{Step}
 use Rattle.rom.specs.declared.step.Step.the-variants.{SendStx, TakeSoh, TakeLow, TakeHigh, TakeExtendedLow, TakeExtendedHigh, SendAck, SendXor, TakeAck, SendNak, Running}
 use Rattle.rom.specs.declared.step.Step.the-variants as step
-use Rattle.rom.specs.declared.step.Word.{Word}
-use Rattle.rom.specs.declared.step.Word.the-variants.{Byte, Xor}
+use Rattle.rom.specs.declared.step.Output.{Output}
+use Rattle.rom.specs.declared.step.Output.the-variants.{Byte, Xor}
 use Rattle.rom.specs.declared.step.Ask.{Ask}
 use Rattle.rom.specs.declared.step.Ask.the-variants.{TakeByte, TakeCode, Send, Halt}
 use Rattle.rom.specs.Flow.{stx, ack, nak}
@@ -32,7 +32,7 @@ askOf Running = Halt
 abbrev pub needOf : Ask → Need
 needOf TakeByte = machine.take
 needOf (TakeCode length place) = machine.take
-needOf (Send word) = machine.send
+needOf (Send output) = machine.send
 needOf Halt = runs
 
 -- the XOR of bytes, starting from x
@@ -45,13 +45,13 @@ unfoldable pub xorOf : List ℕ → ℕ
 xorOf bytes = xorFrom 0 bytes
 
 -- the code's bytes are the first of the RAM
-abbrev pub wordOf : Word → (ram : List ℕ) → ℕ
-wordOf (Byte b) ram = b
-wordOf (Xor length) ram = xorOf (take length ram)
+abbrev pub outputOf : Output → (ram : List ℕ) → ℕ
+outputOf (Byte b) ram = b
+outputOf (Xor length) ram = xorOf (take length ram)
 
 -- the byte that is sent; an ask that sends none has 0 here, which nobody reads
 abbrev pub byteOf : Ask → (ram : List ℕ) → ℕ
-byteOf (Send word) ram = wordOf word ram
+byteOf (Send output) ram = outputOf output ram
 byteOf TakeByte ram = 0
 byteOf (TakeCode length place) ram = 0
 byteOf Halt ram = 0
@@ -60,5 +60,5 @@ byteOf Halt ram = 0
 abbrev pub stored : Ask → (byte : ℕ) (ram : List ℕ) → List ℕ
 stored (TakeCode length place) byte ram = set ram place byte
 stored TakeByte byte ram = ram
-stored (Send word) byte ram = ram
+stored (Send output) byte ram = ram
 stored Halt byte ram = ram

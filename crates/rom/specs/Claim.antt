@@ -6,13 +6,14 @@ use mathlib.Core.Path.{_≡_}
 use mathlib.Core.Bool.{Bool, true, false, _&&_, _||_}
 use mathlib.Core.List.{List, [], _∷_}
 use lib.Dec.{eqb}
+use Rattle.machine.specs.Machine.{isRunning}
 use Rattle.machine.specs.History.{Event}
-use Rattle.machine.specs.SessionClaim.{Claim}
+use Rattle.machine.specs.SessionClaim.{Claim, MadeClaim}
 use Rattle.rom.specs.declared.kind.Kind.{Kind}
 use Rattle.rom.specs.declared.step.Step.{Step}
 use Rattle.rom.specs.declared.step.Step.the-variants.{SendStx, TakeSoh, TakeLow, TakeHigh, TakeExtendedLow, TakeExtendedHigh, SendAck, TakeCode, SendXor, TakeAck, SendNak, Running}
 use Rattle.rom.specs.Flow.{ack}
-use Rattle.rom.specs.Receiver.{State, fresh}
+use Rattle.rom.specs.Receiver.{State, fresh, need}
 use Rattle.rom.specs.Session.{rom}
 
 -- the step that takes the byte after the XOR
@@ -30,20 +31,6 @@ awaitsAck (SendXor length) = false
 awaitsAck SendNak = false
 awaitsAck Running = false
 
-abbrev pub isRunning : Step → Bool
-isRunning Running = true
-isRunning SendStx = false
-isRunning TakeSoh = false
-isRunning TakeLow = false
-isRunning (TakeHigh low) = false
-isRunning TakeExtendedLow = false
-isRunning (TakeExtendedHigh low) = false
-isRunning (SendAck length) = false
-isRunning (TakeCode length place) = false
-isRunning (SendXor length) = false
-isRunning (TakeAck length) = false
-isRunning SendNak = false
-
 abbrev pub isAck : (view : List ℕ) → Bool
 isAck [] = false
 isAck (byte ∷ view) = eqb byte ack
@@ -54,8 +41,12 @@ acknowledged [] = false
 acknowledged (e ∷ events) = (awaitsAck (e .state .step) && isAck (e .view)) || acknowledged events
 
 abbrev pub RunsExactly : List (Event ℕ State) → State → Type 0
-RunsExactly events s = isRunning (s .step) ≡ acknowledged events
+RunsExactly events s = isRunning (need s) ≡ acknowledged events
 
 -- for both kinds, every RAM, every stream of bytes and every list of calls from a fresh record
 abbrev pub RomClaim : Type 0
 RomClaim = (kind : Kind) → Claim rom RunsExactly (fresh kind)
+
+-- the same of what a program's calls gave back
+abbrev pub RomMadeClaim : Type 0
+RomMadeClaim = (kind : Kind) → MadeClaim rom RunsExactly (fresh kind)

@@ -1,8 +1,9 @@
 pub mod Flow
 pub mod Ask
-pub mod Stored
+pub mod Copied
 pub mod Receiver
 pub mod Record
 pub mod Session
 pub mod Sound
+pub mod Reach
 pub mod Claim

@@ -1,5 +1,5 @@
 -- The receiver's record (01, "Memories and the record", and "Numbers given back", number 4: record unsound). Numbers that a phase
--- does not use are ignored when a record comes in, and are 0 when it goes out.
+-- does not use are ignored when a record comes in, and are 0 in every record that an accepted call hands out.
 -- Assumes nothing.
 use Prim.Native.Nat.{ℕ}
 use mathlib.Core.Bool.{cond}

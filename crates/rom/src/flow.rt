@@ -7,9 +7,9 @@ ghost use Rattle.rom.specs.Flow as flow;
 ghost use Rattle.rom.specs.declared.step.Ask.the-variants.{TakeByte};
 use crate::kind::Kind;
 use crate::step::Ask;
+use crate::step::Output;
 use crate::step::Progress;
 use crate::step::Step;
-use crate::step::Word;
 
 // Sent at the start of the flow.
 pub const STX: u8 = 0x02;
@@ -40,17 +40,17 @@ pub fn ask_of(step: Step) -> Ask
     ensures { λ r. ⌜ r ≡ askOf step ⌝ }
 {
     match step {
-        Step::SendStx => Ask::Send(Word::Byte(STX)),
+        Step::SendStx => Ask::Send(Output::Byte(STX)),
         Step::TakeSoh => Ask::TakeByte,
         Step::TakeLow => Ask::TakeByte,
         Step::TakeHigh(_) => Ask::TakeByte,
         Step::TakeExtendedLow => Ask::TakeByte,
         Step::TakeExtendedHigh(_) => Ask::TakeByte,
-        Step::SendAck(_) => Ask::Send(Word::Byte(ACK)),
+        Step::SendAck(_) => Ask::Send(Output::Byte(ACK)),
         Step::TakeCode(length, place) => Ask::TakeCode(length, place),
-        Step::SendXor(length) => Ask::Send(Word::Xor(length)),
+        Step::SendXor(length) => Ask::Send(Output::Xor(length)),
         Step::TakeAck(_) => Ask::TakeByte,
-        Step::SendNak => Ask::Send(Word::Byte(NAK)),
+        Step::SendNak => Ask::Send(Output::Byte(NAK)),
         Step::Running => Ask::Halt,
     }
 }

@@ -24,13 +24,18 @@ use machine::refused;
 use wire::length::BAD_RAM;
 use wire::length::is_ram_length;
 
-// A receiver's session, by the number of its kind: 0 is P, 1 is E.
+// A receiver's session, by the number of its kind.
 pub struct Receiver {
     pub kind: u32,
 }
 
 impl Receiver {
-    // A fresh record; a call refuses it where the kind is unknown.
+    // The kind numbers of P and E.
+    pub const P: u32 = 0;
+
+    pub const E: u32 = 1;
+
+    // A fresh record; calls refuse it where the kind is unknown.
     pub fn fresh(kind: u32) -> Record
         ensures { λ r. ⌜ r ≡ freshRecord kind ⌝ }
     {
@@ -75,38 +80,38 @@ fn act(kind: Kind, first: Step, reason: u32, input: &[u8], reply: &mut [u8], ram
 {
     let size = ram.len() as u32;
     let mut step = first;
-    let mut last = reason;
+    let mut noted = reason;
     let mut i: usize = 0;
     let mut j: usize = 0;
     loop {
         match ask_of(step) {
             Ask::TakeByte => {
                 if i >= input.len() {
-                    return stopped(step, last, i, j, 1);
+                    return stopped(step, noted, i, j, 1);
                 }
-                let after = took(kind, size, step, last, input[i]);
+                let after = took(kind, size, step, noted, input[i]);
                 step = after.step;
-                last = after.reason;
+                noted = after.reason;
                 i += 1;
             }
             Ask::TakeCode(total, place) => {
                 if i >= input.len() {
-                    return stopped(step, last, i, j, 1);
+                    return stopped(step, noted, i, j, 1);
                 }
                 let count = take_code(total, place, input, i, ram);
                 step = code_step(total, place + count);
                 i += count as usize;
             }
-            Ask::Send(word) => {
+            Ask::Send(output) => {
                 if j >= reply.len() {
-                    return stopped(step, last, i, j, 2);
+                    return stopped(step, noted, i, j, 2);
                 }
-                reply[j] = byte_of(word, ram);
+                reply[j] = byte_of(output, ram);
                 step = sent(step);
                 j += 1;
             }
             Ask::Halt => {
-                return stopped(step, last, i, j, 3);
+                return stopped(step, noted, i, j, 3);
             }
         }
     }
@@ -123,13 +128,13 @@ pub fn call(session: Record, input: &[u8], reply: &mut [u8], ram: &mut [u8]) -> 
     match decode(size as u32, session) {
         Decoded::Sound(kind, step) => {
             let end = act(kind, step, session.reason, input, reply, ram);
-            let last = end.step;
+            let reached = end.step;
             Report {
                 number: 0,
                 standing: end.standing,
                 taken: end.taken,
                 sent: end.sent,
-                session: encode(kind, last, end.reason),
+                session: encode(kind, reached, end.reason),
             }
         }
         Decoded::Unsound => refused(BAD_RECORD, session),

@@ -1,6 +1,7 @@
 // Where the receiver's flow stands, and what a step asks.
 
 // A step of the flow with what the header has brought: the low byte of a length, the code's length, the next code byte's place.
+// Running is running the code at the RAM's first address, 0x07FC0000.
 pub enum Step {
     SendStx,
     TakeSoh,
@@ -17,16 +18,16 @@ pub enum Step {
 }
 
 // What is sent: a byte, or the XOR of so many code bytes.
-pub enum Word {
+pub enum Output {
     Byte(u8),
     Xor(u32),
 }
 
-// What a step asks: a byte, code bytes (the code's length and the next place), room for a word, or nothing since code runs.
+// What a step asks: a byte, code bytes (the code's length and the next place), room for a output, or nothing since code runs.
 pub enum Ask {
     TakeByte,
     TakeCode(u32, u32),
-    Send(Word),
+    Send(Output),
     Halt,
 }
 

@@ -2,9 +2,9 @@
 ghost use mathlib.Core.Path.{_≡_};
 ghost use Prim.Native.Nat.{_≤_, _<_, min};
 ghost use lib.ListN.{length, take};
-ghost use Rattle.rom.specs.Ask.{xorOf, wordOf};
-ghost use Rattle.rom.specs.Stored.{Copied, InRam};
-use crate::step::Word;
+ghost use Rattle.rom.specs.Ask.{xorOf, outputOf};
+ghost use Rattle.rom.specs.Copied.{Copied, InRam};
+use crate::step::Output;
 
 fn least(a: usize, b: usize) -> usize
     ensures { λ r. ⌜ r ≡ min a b ⌝ }
@@ -38,13 +38,13 @@ fn xor_of(ram: &[u8], count: usize) -> u8
     x
 }
 
-// The byte that is sent for a word.
-pub fn byte_of(word: Word, ram: &[u8]) -> u8
-    requires { ⌜ InRam word (length (now ram)) ⌝ }
-    ensures { λ r. ⌜ r ≡ wordOf word (now (ram .entry)) ⌝ }
+// The byte that is sent for a output.
+pub fn byte_of(output: Output, ram: &[u8]) -> u8
+    requires { ⌜ InRam output (length (now ram)) ⌝ }
+    ensures { λ r. ⌜ r ≡ outputOf output (now (ram .entry)) ⌝ }
 {
-    match word {
-        Word::Byte(b) => b,
-        Word::Xor(count) => xor_of(ram, count as usize),
+    match output {
+        Output::Byte(b) => b,
+        Output::Xor(count) => xor_of(ram, count as usize),
     }
 }

@@ -1,5 +1,5 @@
 // Numbers and ranges as they come over the wire: little-endian numbers, ranges judged without a sum that could wrap, the two units
-// that a place on the device has, and the lengths that flash may have.
+// that a place on the device has, and the lengths that memories may have.
 pub mod length;
 pub mod number;
 pub mod range;

@@ -3,7 +3,7 @@
 use mathlib.Core.Path.{_≡_, refl, sym}
 use native.Mathlib.Omega.{arith}
 use lib.ListN.{length}
-use Rattle.machine.proofs.Refusals.{words-back}
+use Rattle.machine.proofs.Records.{words-back}
 use borrow.Author.Needs.{needs}
 use Rattle.machine.proofs.words.record_of.Statement.{statement}
 use Rattle.machine.proofs.words.record_of.Tie as tie

@@ -11,10 +11,10 @@ use Rattle.rom.proofs.session.act.Statement.{statement}
 use Rattle.rom.proofs.session.act.Tie as tie
 
 abbrev Inv-loop : tie.InvT-loop
-Inv-loop kind reason input reply₀ ram₀ size step₀ last₀ i₀ j₀ reply ram step last i j = Turn kind step₀ last₀ ram₀ input reply₀ step last ram reply i j
+Inv-loop kind reason input reply₀ ram₀ size step₀ noted₀ i₀ j₀ reply ram step noted i j = Turn kind step₀ noted₀ ram₀ input reply₀ step noted ram reply i j
 
 abbrev μ-loop : tie.MeasureT-loop
-μ-loop kind reason input reply₀ ram₀ size step₀ last₀ i₀ j₀ reply ram step last i j = length input - i + (length reply - j)
+μ-loop kind reason input reply₀ ram₀ size step₀ noted₀ i₀ j₀ reply ram step noted i j = length input - i + (length reply - j)
 
 -- what is left of the code lies in the RAM
 wanted : (c : tie.After-known-told Inv-loop μ-loop) →
@@ -104,8 +104,8 @@ loop-again-2 c =
     code-turn (c .before .before .before .before .before .before .before .before .before .before .loop .inv) _ (c .before .before .before .before .before .before .before .before .before .ask-of .ensures) _ _ (c .before .before .before .before .before .before .before .total .given .1) (c .before .before .before .before .before .if2 .left)
     _ _ (c .before .before .before .take-code .ensures) _ (c .code-step .ensures)
 
-enum-known-word : tie.Need-enum-known-word Inv-loop μ-loop
-enum-known-word c = search needs
+enum-known-output : tie.Need-enum-known-output Inv-loop μ-loop
+enum-known-output c = search needs
 
 stopped-requires-3 : tie.Need-stopped-requires-3 Inv-loop μ-loop
 stopped-requires-3 c κs = search needs
@@ -119,10 +119,10 @@ same-length-6 c = c .before .before .before .before .before .before .loop .inv .
 returns-3 : tie.Need-returns-3 Inv-loop μ-loop
 returns-3 c =
     rw (c .stopped3 .ensures)
-    (choked (c .before .before .before .before .before .before .loop .inv) _ (c .before .before .before .before .before .ask-of .ensures) _ (c .before .before .before .word .given .1) (c .before .if3 .taken))
+    (choked (c .before .before .before .before .before .before .loop .inv) _ (c .before .before .before .before .before .ask-of .ensures) _ (c .before .before .before .output .given .1) (c .before .if3 .taken))
 
 byte-of-requires : tie.Need-byte-of-requires Inv-loop μ-loop
-byte-of-requires c κs = inside (c .before .before .before .before .before .before .loop .inv) _ (c .before .before .before .before .before .ask-of .ensures) _ (c .before .before .before .word .given .1)
+byte-of-requires c κs = inside (c .before .before .before .before .before .before .loop .inv) _ (c .before .before .before .before .before .ask-of .ensures) _ (c .before .before .before .output .given .1)
 
 slice-write-reply : tie.Need-slice-write-reply Inv-loop μ-loop
 slice-write-reply c = omega arith
@@ -138,7 +138,7 @@ loop-less-3 c = simp length-set (omega arith)
 
 loop-again-3 : tie.Need-loop-again-3 Inv-loop μ-loop
 loop-again-3 c =
-    sent-turn (c .before .before .before .before .before .before .before .before .loop .inv) _ (c .before .before .before .before .before .before .before .ask-of .ensures) _ (c .before .before .before .before .before .word .given .1) (c .before .before .before .if3 .left)
+    sent-turn (c .before .before .before .before .before .before .before .before .loop .inv) _ (c .before .before .before .before .before .before .before .ask-of .ensures) _ (c .before .before .before .before .before .output .given .1) (c .before .before .before .if3 .left)
     _ (c .before .byte-of .ensures) _ (c .sent .ensures)
 
 enum-told-2 : tie.Need-enum-told-2 Inv-loop μ-loop
@@ -188,7 +188,7 @@ act-spec =
     add-i-2
     loop-less-2
     loop-again-2
-    enum-known-word
+    enum-known-output
     stopped-requires-3
     same-length-5
     same-length-6

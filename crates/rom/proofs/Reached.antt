@@ -1,0 +1,84 @@
+-- Every record that calls can reach is accepted.
+-- Assumes nothing.
+use Prim.Native.Nat.{ℕ}
+use mathlib.Core.Path.{_≡_, refl, sym, ap, subst, _∙_}
+use mathlib.Core.Bool.{Bool, true, false, cond}
+use mathlib.Core.List.{List, [], _∷_}
+use native.Mathlib.Omega.{arith}
+use lib.ListN.{length}
+use Rattle.wire.specs.Length.{isRamLength}
+use Rattle.machine.specs.Call.{call}
+use Rattle.machine.specs.Lawful.{Every, Kept}
+use Rattle.machine.specs.Session.{sound, unsound, accepted, answerOf}
+use Rattle.machine.specs.declared.Record.{Record}
+use Rattle.machine.proofs.Lines.{line-kept}
+use Rattle.machine.proofs.Paths.{call-keeps}
+use Rattle.machine.proofs.Refusals.{accepts}
+use Rattle.rom.specs.declared.record.Decoded.{Decoded}
+use Rattle.rom.specs.declared.record.Decoded.the-variants as decoded
+use Rattle.rom.specs.Ask.{askOf}
+use Rattle.rom.specs.Receiver.{State, need, took, byte, sent, due, receiver}
+use Rattle.rom.specs.Record.{written, decodedOf}
+use Rattle.rom.specs.Session.{state, rom}
+use Rattle.rom.specs.Sound.{Sound}
+use Rattle.rom.specs.Reach.{StartsFresh, StaysAccepted}
+use Rattle.rom.proofs.Laws.{is-line, lawful, stored-length, took-sound, sent-sound}
+use Rattle.rom.proofs.Records.{decoded-sound, reads-back}
+
+pub starts-fresh : StartsFresh
+unfolding written
+starts-fresh kind ram = refl
+
+-- a RAM's length is accepted exactly if it is not refused
+pub ram-fits : (t : Bool) → _≡_ {A = ℕ} (cond t 0 2) 0 → t ≡ true
+ram-fits true e = refl
+ram-fits false e = let z : ⊥ = omega arith in absurd z
+
+-- a record that is read stands for a sound state
+read-sound : (r : Record) (ram : List ℕ) (s : State) → isRamLength (length ram) ≡ true → rom .read r ram ≡ sound s → Sound s × (length (s .ram) ≡ length ram)
+read-sound r ram s f e = go (decodedOf (length ram) r) refl
+  where
+    go : (d : Decoded) → decodedOf (length ram) r ≡ d → Sound s × (length (s .ram) ≡ length ram)
+    go (decoded.Sound kind step) q =
+        let g : Sound (state kind step (r .reason) ram) = record { fits = f; step-sound = decoded-sound (length ram) r kind step q } in
+        let is : state kind step (r .reason) ram ≡ s = same (state kind step (r .reason) ram) s (rw q at e) in
+        (subst Sound is g, ap (λ (x : State). length (x .ram)) (sym is))
+      where
+        same : (a b : State) → sound a ≡ sound b → a ≡ b
+        same a b e = cc
+    go decoded.Unsound q = absurd (never s (rw q at e))
+      where
+        never : (s : State) → unsound ≡ sound s → ⊥
+        never s e = let z : _≡_ {A = ℕ} 0 1 = cc in omega arith
+
+-- what a call keeps: a sound state, and the RAM's length
+Holds : ℕ → State → Type 0
+Holds size s = Sound s × (length (s .ram) ≡ size)
+
+Any : ℕ → Type 0
+Any b = Unit {0}
+
+kept : (size : ℕ) → Kept receiver Any (λ _ s. Holds size s)
+unfolding Holds took
+kept size =
+    line-kept need took byte sent due is-line Any (λ _ s. Holds size s)
+    (λ events s b e w h. (took-sound s b (h .0), stored-length (askOf (s .step)) b (s .ram) ∙ h .1))
+    (λ events s e h. (sent-sound s (h .0), h .1))
+
+all-any : (xs : List ℕ) → Every Any xs
+unfolding Any
+all-any [] = tt
+all-any (x ∷ xs) = (tt, all-any xs)
+
+pub stays-accepted : StaysAccepted
+unfolding Holds answerOf accepted written
+stays-accepted r ram input reply e ram′ input′ reply′ l =
+    let a = accepts rom r ram input reply e in
+    let s = a .state in
+    let o = call receiver s input (length reply) in
+    let start = read-sound r ram s (ram-fits (isRamLength (length ram)) (a .fits)) (a .read-is) in
+    let h : Holds (length ram) (o .final) = call-keeps receiver (lawful Any) s input (kept (length ram)) (all-any input) start (length reply) in
+    let same : length (o .final .ram) ≡ length ram′ = h .1 ∙ sym l in
+    let fits = rw same at (h .0 .fits) in
+    let back = reads-back (o .final .kind) (length ram′) (o .final .step) (o .final .reason) (rw same at (h .0 .step-sound)) in
+    rw (a .answer-is) (simp (fits, back) refl)

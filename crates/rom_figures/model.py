@@ -1,0 +1,286 @@
+#!/usr/bin/env python3
+"""01's ROM receiver and boot frame in plain Python, and the figures that are run.
+
+    python3 model.py --rows > stdin     the rows that the program reads
+    python3 model.py > stdout           the same rows, each with what 01 answers
+"""
+import itertools
+import sys
+
+# ---- the paper's rules
+
+TAKE, RUN = "take", "run"
+
+
+class Session:
+    """One session with one RAM. Its flow waits between calls where the last call left it."""
+
+    def __init__(self, kind, ram):
+        self.kind, self.ram, self.reason = kind, ram, 0
+        self.flow = self.actions()
+        self.action = next(self.flow)
+
+    def actions(self):
+        """The flow: it yields a byte to send, TAKE for the stream's next byte, or RUN once code runs."""
+        while True:
+            yield 0x02
+            code_length = yield from self.header()
+            if code_length == 0:
+                yield 0x15
+                continue
+            yield 0x06
+            xor = 0x00
+            for i in range(code_length):
+                self.ram[i] = yield TAKE
+                xor ^= self.ram[i]
+            yield xor
+            if (yield TAKE) == 0x06:
+                break
+            self.reason = 34
+        while True:
+            yield RUN
+
+    def header(self):
+        """The code's length, or 0 for a refused header."""
+        if (yield TAKE) != 0x01:
+            self.reason = 31
+            return 0
+        low = yield TAKE
+        length = low + ((yield TAKE) << 8)
+        if length == 0 and self.kind == 0:
+            self.reason = 32
+            return 0
+        if length == 0:
+            low = yield TAKE
+            length = 65536 + low + ((yield TAKE) << 8)
+        if length > len(self.ram):
+            self.reason = 33
+            return 0
+        return length
+
+    def call(self, data, room):
+        """Number, bytes taken, the bytes sent, standing."""
+        if not 1 <= len(self.ram) <= 131072:
+            return 2, 0, b"", 0
+        if self.kind not in (0, 1):
+            return 4, 0, b"", 0
+        taken, sent = 0, bytearray()
+        while self.action != RUN:
+            if self.action == TAKE:
+                if taken == len(data):
+                    return 0, taken, bytes(sent), 1
+                self.action = self.flow.send(data[taken])
+                taken += 1
+            else:
+                if len(sent) == room:
+                    return 0, taken, bytes(sent), 2
+                sent.append(self.action)
+                self.action = next(self.flow)
+        return 0, taken, bytes(sent), 3
+
+
+def frame(kind, code, output):
+    """Number, frame's length, and what then stands in the output."""
+    if not code:
+        return 41, 0, output
+    if len(code) > (65535, 131071)[kind]:
+        return 42, 0, output
+    if len(code) < 65536:
+        field = len(code).to_bytes(2, "little")
+    else:
+        field = b"\x00\x00" + (len(code) - 65536).to_bytes(2, "little")
+    whole = b"\x01" + field + code + b"\x06"
+    if len(whole) > len(output):
+        return 43, 0, output
+    return 0, len(whole), whole + output[len(whole):]
+
+
+# ---- the bytes that a row stands for
+
+REPLIES = 64
+
+
+def counting(length):
+    return (bytes(range(251)) * (length // 251 + 1))[:length]
+
+
+def data_of(text):
+    """Parts between commas: hexadecimal digits, or *N for N bytes that count from 0 to 250 again and again; - for none."""
+    return b"".join(counting(int(p[1:])) if p[0] == "*" else bytes.fromhex(p) for p in text.split(",") if p != "-")
+
+
+# ---- the figures' inputs: streams, each with the ways to cut it. A call is the length of its piece and the room for its reply.
+
+ALL = 32
+
+
+def whole(n):
+    return [(n, ALL)]
+
+
+def bytewise(n):
+    return itertools.cycle([(1, ALL)])
+
+
+def two_and_three(n):
+    """Room for one byte only, so that bytes are shown again."""
+    return itertools.cycle([(2, 1), (3, 1)])
+
+
+def late_room(n):
+    return [(n, 0), (n, 0), (n, 1), (n, ALL)]
+
+
+def late_input(n):
+    return [(0, 0), (0, 1), (0, ALL), (n, ALL)]
+
+
+def one_more(n):
+    """The first byte alone, then more than there is."""
+    return [(1, 1), (n + 9, ALL)]
+
+
+def in_header(n):
+    """Cuts between a header's bytes, then in the middle of the code."""
+    return [(2, ALL), (1, 0), (1, 0), (1, 1), (n // 2, ALL), (n // 2, ALL), (n, ALL)]
+
+
+def large(n):
+    return itertools.cycle([(50000, 1)])
+
+
+NO_INPUT = [lambda n: [(0, ALL), (0, ALL)], lambda n: [(0, 0)], lambda n: [(0, 1), (0, 0)]]
+NO_ROOM = [lambda n: [(n, 0), (n, 0)], lambda n: [(n, 1), (n, 0)], lambda n: [(n, 2), (n, 0)], lambda n: [(n, 3), (n, 0)]]
+SHORT = [whole, bytewise, two_and_three, late_room, late_input, one_more]
+FEW = [whole, bytewise]
+LONG = [whole, in_header, large]
+
+GOOD = "010300112244,06"
+LOAD = "01020099aa,06"
+STREAMS = [
+    # kind, RAM length, the host's bytes, cuts
+    (0, 16, GOOD, SHORT), (1, 16, GOOD, SHORT), (0, 3, GOOD, FEW), (0, 131072, GOOD, FEW),
+    (0, 16, GOOD, NO_ROOM), (0, 16, "-", NO_INPUT), (1, 1, "-", NO_INPUT),
+    # the wire's own bytes as code; a code of one byte; one as long as the RAM
+    (0, 16, "01060001020615ff00,06", FEW), (1, 1, "0101005a,06", FEW), (0, 16, "011000,*16,06", FEW),
+    # the length's low byte first
+    (0, 600, "010102,*513,06", [whole]), (0, 512, "010102", FEW), (1, 600, "010002,*512,06", [whole]), (1, 511, "010002", FEW),
+    # a reason stands as soon as its byte is taken, also where its 15 has no room yet
+    (0, 16, "00", NO_ROOM), (0, 16, "010000", NO_ROOM), (1, 16, "0100000000", NO_ROOM), (0, 16, "0101005a,07", NO_ROOM),
+    # length 0 of kind P; kind E takes two more
+    (0, 16, "010000", SHORT), (0, 16, "010000," + LOAD, SHORT), (1, 16, "010000", FEW), (1, 16, "01000000", FEW),
+    # first bytes other than 01
+    (0, 16, "00", SHORT), (0, 16, "0006150280ff," + LOAD, SHORT), (1, 16, "0210," + LOAD, FEW),
+    # above the RAM
+    (0, 16, "011100," + LOAD, SHORT), (1, 16, "011100," + LOAD, FEW), (0, 1, "010200,0101005a,06", FEW), (0, 2, GOOD, FEW),
+    (1, 16, "0100000000," + LOAD, SHORT), (1, 16, "010000ffff," + LOAD, FEW),
+    # last bytes other than 06: the code stays; the next load stores over its front
+    (0, 16, "0105001122334455,15," + LOAD, SHORT), (1, 16, "0105001122334455,00," + LOAD, FEW), (0, 16, "010300112244,01", FEW),
+    (0, 16, "0101005a,07,0101005b,86,0101005c,06", FEW),
+    # two refused headers, and then a load; the last reason stays
+    (0, 16, "010000,011100," + LOAD, SHORT), (0, 16, "011100,010000," + LOAD, FEW), (0, 16, "02,010000," + LOAD, FEW),
+    (1, 16, "011100,02," + LOAD, FEW), (1, 16, "0100000100,011100," + LOAD, FEW), (0, 16, "011100,0101005a,00,02," + LOAD, FEW),
+    (0, 16, "011100,0101005a,00," + LOAD, FEW),
+    # ends in the header, in the code and before the last byte
+    (0, 16, "01", FEW), (0, 16, "0103", FEW), (0, 16, "010300", FEW), (1, 131072, "010000", FEW), (1, 131072, "01000001", FEW),
+    (0, 16, "01030011", FEW), (0, 16, "0103001122", SHORT), (0, 16, "010300112244", FEW), (1, 131072, "010000ffff,*3", FEW),
+    # bytes while code runs
+    (0, 16, GOOD + ",aabb01", SHORT), (1, 16, GOOD + "," + LOAD, FEW),
+    # lengths of 65,535 and more
+    (1, 65534, "01ffff", SHORT), (1, 65535, "01ffff", SHORT), (1, 131072, "01ffff", FEW), (0, 65534, "01ffff", FEW),
+    (0, 65535, "01ffff", FEW), (0, 131072, "01ffff", FEW),
+    (1, 65535, "0100000000", SHORT), (1, 65536, "0100000000", SHORT), (1, 131072, "0100000000", FEW),
+    (1, 65536, "0100000100", SHORT), (1, 65537, "0100000100", SHORT), (1, 131072, "0100000100", FEW),
+    (1, 65791, "0100000001", FEW), (1, 65792, "0100000001", FEW),
+    (1, 131070, "010000ffff", FEW), (1, 131071, "010000ffff", SHORT), (1, 131072, "010000ffff", FEW),
+    # whole loads of them
+    (0, 65535, "01ffff,*65535,06", LONG), (1, 65535, "01ffff,*65535,06", LONG), (1, 131072, "01ffff,*65535,06", LONG),
+    (1, 65536, "0100000000,*65536,06", LONG), (1, 65537, "0100000100,*65537,06", LONG), (1, 131072, "0100000100,*65537,06", LONG),
+    (1, 131071, "010000ffff,*131071,06", LONG), (1, 131072, "010000ffff,*131071,06", LONG),
+    (1, 131072, "010000ffff,*131071,02," + LOAD, LONG), (1, 65536, "0100000100,0100000000,*65536,06", LONG),
+    # refused calls
+    (0, 0, GOOD, FEW), (1, 0, "-", NO_INPUT), (0, 131073, GOOD, FEW), (1, 131073, GOOD, FEW), (2, 16, GOOD, FEW),
+    (2, 131072, "-", NO_INPUT), (9999, 1, GOOD, FEW), (2, 0, GOOD, FEW), (2, 131073, GOOD, FEW),
+]
+
+CODES = 0, 1, 3, 255, 256, 257, 65535, 65536, 65537, 131071, 131072
+
+
+def frames():
+    """Kind, code, output's length: as long as the frame, one shorter, longer; where there is no frame, some lengths."""
+    for kind in 0, 1:
+        for length in CODES:
+            _, most, _ = frame(kind, counting(length), bytes(131200))
+            for output in (most, most - 1, most + 5) if most else (0, 5, length + 6):
+                yield kind, "*%d" % length, output
+    for code, output in (("112244", 7), ("112244", 0), ("-", 0), ("010615", 7), ("00", 16)):
+        yield 0, code, output
+        yield 1, code, output
+
+
+# ---- rows and answers
+
+
+def hexes(data):
+    return "".join(" %02x" % b for b in data)
+
+
+def sums(data):
+    """The sum of all bytes, and the sum of the sums on the way."""
+    return ", sums %d %d" % (sum(data), sum(itertools.accumulate(data)))
+
+
+class Run:
+    """Calls to one session, what they say, and the joined replies. Bytes that a call does not take are shown again."""
+
+    def __init__(self, kind, length, data):
+        self.session = Session(kind, bytearray(b"\xff" * length))
+        self.data, self.at, self.replies, self.calls, self.said = data, 0, b"", [], []
+
+    def call(self, piece, room):
+        shown, room_left = self.data[self.at:self.at + piece], REPLIES - len(self.replies)
+        number, taken, sent, standing = self.session.call(shown, min(room, room_left))
+        self.at += taken
+        self.replies += sent
+        self.calls.append("%d/%d" % (piece, room))
+        self.said.append(" %d %d %d %d;" % (number, taken, len(sent), standing))
+        return taken + len(sent)
+
+    def end(self):
+        return self.replies, self.at, self.session.reason, self.session.ram
+
+    def answer(self):
+        replies, _, reason, ram = self.end()
+        n, room = len(replies), replies.ljust(REPLIES, b"\xee")
+        return ":%s sent%s, then%s%s; reason %d; RAM%s%s" % (
+            "".join(self.said), hexes(room[:n]), hexes(room[n:n + 2]), sums(room), reason, hexes(ram[:8]), sums(ram))
+
+
+def stream_lines():
+    """A cut ends with a call that has bytes and room and does nothing, where there is one, and with a call that has neither."""
+    for kind, length, text, cuts in STREAMS:
+        data, ends = data_of(text), []
+        for cut in cuts:
+            run = Run(kind, length, data)
+            for piece, room in cut(len(data)):
+                if run.call(piece, room) == 0 and piece > 0 and room > 0:
+                    break
+            run.call(0, 0)
+            ends.append(run.end())
+            yield "stream %d %d %s %s" % (kind, length, text, " ".join(run.calls)), run.answer()
+        # all was shown, with room: cuts do not matter
+        assert cuts in (NO_INPUT, NO_ROOM) or all(end == ends[0] for end in ends), (kind, length, text)
+
+
+def frame_lines():
+    for kind, text, length in frames():
+        number, count, out = frame(kind, data_of(text), b"\xee" * length)
+        yield ("frame %d %s %d" % (kind, text, length),
+               ": number %d, length %d; first%s, last%s, then%s%s" % (
+                   number, count, hexes(out[:7]), hexes(out[:count][-3:]), hexes(out[count:count + 3]), sums(out)))
+
+
+if __name__ == "__main__":
+    rows_only = sys.argv[1:] == ["--rows"]
+    for text, answer in itertools.chain(stream_lines(), frame_lines()):
+        print(text if rows_only else text + answer)
