@@ -7,8 +7,8 @@ use Rattle.version.specs.Text.{isNumber, wellFormed}
 use Rattle.version.specs.Rank.{rankOf}
 use Rattle.version.specs.Order.{comparedFields, orderOf}
 use Rattle.machine.specs.Uncut.{drain, feed, uncut}
-use Rattle.rom.specs.Ask.{xorOf}
-use Rattle.rom.specs.Receiver.{took}
+use Rattle.rom_flow.specs.Ask.{xorOf}
+use Rattle.rom_flow.specs.Receiver.{took}
 use Rattle.figures.specs.ProvedSet.{AllHold, provedSet}
 
 pub proved-set : AllHold provedSet

@@ -14,9 +14,9 @@ use Rattle.image.specs.declared.Image.the-variants.{Valid}
 use Rattle.slot.specs.Slot.{chosen}
 use Rattle.machine.specs.Uncut.{uncut}
 use Rattle.machine.specs.Listing.{definitionOf}
-use Rattle.rom.specs.declared.kind.Kind.the-variants.{P, E}
-use Rattle.rom.specs.declared.step.Step.the-variants.{TakeCode, Running}
-use Rattle.rom.specs.Receiver.{fresh, receiver}
+use Rattle.rom_flow.specs.declared.kind.Kind.the-variants.{P, E}
+use Rattle.rom_flow.specs.declared.step.Step.the-variants.{TakeCode, Running}
+use Rattle.rom_flow.specs.Receiver.{fresh, receiver}
 use Rattle.rom.specs.Record.{written}
 use Rattle.rom.specs.Session.{rom}
 

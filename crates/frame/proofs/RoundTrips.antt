@@ -19,14 +19,13 @@ use Rattle.machine.specs.Machine as machine
 use Rattle.machine.specs.Outcome.{acted}
 use Rattle.machine.specs.Uncut.{uncut}
 use Rattle.machine.proofs.Actions.{uncut-act, uncut-run}
-use Rattle.rom.specs.declared.kind.Kind.{Kind}
-use Rattle.rom.specs.declared.kind.Kind.the-variants.{P, E}
-use Rattle.rom.specs.declared.step.Step.the-variants.{SendAck, TakeCode, SendXor, Running}
-use Rattle.rom.specs.Flow.{stx, soh, ack, codeStep}
-use Rattle.rom.specs.Ask.{xorOf}
-use Rattle.rom.specs.Receiver.{State, fresh, need, took, byte, sent, receiver}
-use Rattle.rom.specs.Session.{state}
-use Rattle.rom.proofs.Laws.{lawful-any}
+use Rattle.rom_flow.specs.declared.kind.Kind.{Kind}
+use Rattle.rom_flow.specs.declared.kind.Kind.the-variants.{P, E}
+use Rattle.rom_flow.specs.declared.step.Step.the-variants.{SendAck, TakeCode, SendXor, Running}
+use Rattle.rom_flow.specs.Flow.{stx, soh, ack, codeStep}
+use Rattle.rom_flow.specs.Ask.{xorOf}
+use Rattle.rom_flow.specs.Receiver.{State, fresh, need, took, byte, sent, receiver, state}
+use Rattle.rom_flow.proofs.Laws.{lawful-any}
 use Rattle.frame.specs.Frame.{longest, pair, lengthField, headerOf, frameOf, emptyCode, longCode, shortOutput, written, framedOf}
 use Rattle.frame.specs.RoundTrip.{RoundTrip}
 

@@ -6,8 +6,8 @@ use mathlib.Core.Bool.{Bool, false, cond}
 use lib.Dec.{eqb, leb, ltb}
 use lib.ListN.{length}
 use Rattle.memory.specs.Store.{laid}
-use Rattle.rom.specs.declared.kind.Kind.{Kind}
-use Rattle.rom.specs.declared.kind.Kind.the-variants.{P, E}
+use Rattle.rom_flow.specs.declared.kind.Kind.{Kind}
+use Rattle.rom_flow.specs.declared.kind.Kind.the-variants.{P, E}
 use Rattle.frame.specs.declared.Framed.{Framed}
 
 -- the longest code that the length field of a kind can tell

@@ -6,11 +6,11 @@ use mathlib.Core.List.{List, [], _∷_}
 use lib.ListN.{length, take}
 use Rattle.memory.specs.Store.{laid}
 use Rattle.machine.specs.Uncut.{uncut}
-use Rattle.rom.specs.declared.kind.Kind.{Kind}
-use Rattle.rom.specs.declared.step.Step.the-variants.{Running}
-use Rattle.rom.specs.Flow.{stx, ack}
-use Rattle.rom.specs.Ask.{xorOf}
-use Rattle.rom.specs.Receiver.{fresh, receiver}
+use Rattle.rom_flow.specs.declared.kind.Kind.{Kind}
+use Rattle.rom_flow.specs.declared.step.Step.the-variants.{Running}
+use Rattle.rom_flow.specs.Flow.{stx, ack}
+use Rattle.rom_flow.specs.Ask.{xorOf}
+use Rattle.rom_flow.specs.Receiver.{fresh, receiver}
 use Rattle.frame.specs.Frame.{framedOf}
 
 -- a frame that is written, fed uncut to a fresh receiver of its kind: the code lies at the RAM's front, the rest of the RAM is as it

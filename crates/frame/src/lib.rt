@@ -6,7 +6,7 @@ ghost use lib.Seq.{sets};
 ghost use Rattle.memory.specs.Store.{laid};
 ghost use Rattle.frame.specs.Frame.{longest, pair, isExtended, headerOf, frameOf, refused, written, framedOf};
 use memory::store::lay;
-use rom::kind::Kind;
+use rom_flow::kind::Kind;
 
 // The number given where there is no code.
 pub const EMPTY_CODE: u32 = 41;

@@ -11,12 +11,12 @@ use Rattle.machine.specs.Loop.{Acted}
 use Rattle.machine.specs.Session.{badRecord, refusedReport, accepted, answerOf}
 use Rattle.machine.specs.declared.Record.{Record}
 use Rattle.machine.specs.declared.Report.{Report}
-use Rattle.rom.specs.declared.kind.Kind.{Kind}
-use Rattle.rom.specs.declared.step.Step.{Step}
+use Rattle.rom_flow.specs.declared.kind.Kind.{Kind}
+use Rattle.rom_flow.specs.declared.step.Step.{Step}
 use Rattle.rom.specs.declared.record.Decoded.the-variants.{Sound, Unsound}
-use Rattle.rom.specs.Receiver.{receiver}
+use Rattle.rom_flow.specs.Receiver.{receiver, state}
 use Rattle.rom.specs.Record.{written, decodedOf}
-use Rattle.rom.specs.Session.{state, rom, answer}
+use Rattle.rom.specs.Session.{rom, answer}
 
 module _ (session : Record) (input reply ram : List ℕ) (r : Report) where
   pub bad-length : isRamLength (length ram) ≡ false → r ≡ refusedReport badRam session → answer r reply ram ≡ answerOf rom session ram input reply

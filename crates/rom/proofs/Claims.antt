@@ -14,19 +14,19 @@ use Rattle.machine.specs.History.{Event}
 use Rattle.machine.specs.SessionLaws.{Byte, Faithful}
 use Rattle.machine.proofs.Lines.{line-one, line-speaks, line-kept}
 use Rattle.machine.proofs.Sessions.{session-claim, made-claim}
-use Rattle.rom.specs.declared.kind.Kind.{Kind}
-use Rattle.rom.specs.declared.kind.Kind.the-variants.{P, E}
-use Rattle.rom.specs.declared.step.Step.{Step}
-use Rattle.rom.specs.declared.step.Step.the-variants.{SendStx, TakeSoh, TakeLow, TakeHigh, TakeExtendedLow, TakeExtendedHigh, SendAck, TakeCode, SendXor, TakeAck, SendNak, Running}
-use Rattle.rom.specs.declared.step.Progress.{Progress}
-use Rattle.rom.specs.Flow as flow
-use Rattle.rom.specs.Ask.{askOf, needOf}
-use Rattle.rom.specs.Receiver.{State, fresh, need, took, byte, sent, due}
+use Rattle.rom_flow.specs.declared.kind.Kind.{Kind}
+use Rattle.rom_flow.specs.declared.kind.Kind.the-variants.{P, E}
+use Rattle.rom_flow.specs.declared.step.Step.{Step}
+use Rattle.rom_flow.specs.declared.step.Step.the-variants.{SendStx, TakeSoh, TakeLow, TakeHigh, TakeExtendedLow, TakeExtendedHigh, SendAck, TakeCode, SendXor, TakeAck, SendNak, Running}
+use Rattle.rom_flow.specs.declared.step.Progress.{Progress}
+use Rattle.rom_flow.specs.Flow as flow
+use Rattle.rom_flow.specs.Ask.{askOf, needOf}
+use Rattle.rom_flow.specs.Receiver.{State, fresh, need, took, byte, sent, due}
 use Rattle.rom.specs.Record.{written}
 use Rattle.rom.specs.Session.{rom}
-use Rattle.rom.specs.Sound.{Sound}
+use Rattle.rom_flow.specs.Sound.{Sound}
 use Rattle.rom.specs.Claim.{awaitsAck, acknowledged, RunsExactly, RomClaim, RomMadeClaim}
-use Rattle.rom.proofs.Laws.{is-line, lawful}
+use Rattle.rom_flow.proofs.Laws.{is-line, lawful}
 use Rattle.rom.proofs.Records.{reads-back}
 use Rattle.rom.proofs.Reached.{ram-fits}
 

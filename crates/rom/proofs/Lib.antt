@@ -1,6 +1,3 @@
-pub mod Steps
-pub mod Copies
-pub mod Laws
 pub mod Turns
 pub mod Records
 pub mod Calls

@@ -16,13 +16,13 @@ use Rattle.machine.proofs.Paths.{call-keeps}
 use Rattle.machine.proofs.Refusals.{accepts}
 use Rattle.rom.specs.declared.record.Decoded.{Decoded}
 use Rattle.rom.specs.declared.record.Decoded.the-variants as decoded
-use Rattle.rom.specs.Ask.{askOf}
-use Rattle.rom.specs.Receiver.{State, need, took, byte, sent, due, receiver}
+use Rattle.rom_flow.specs.Ask.{askOf}
+use Rattle.rom_flow.specs.Receiver.{State, need, took, byte, sent, due, receiver, state}
 use Rattle.rom.specs.Record.{written, decodedOf}
-use Rattle.rom.specs.Session.{state, rom}
-use Rattle.rom.specs.Sound.{Sound}
+use Rattle.rom.specs.Session.{rom}
+use Rattle.rom_flow.specs.Sound.{Sound}
 use Rattle.rom.specs.Reach.{StartsFresh, StaysAccepted}
-use Rattle.rom.proofs.Laws.{is-line, lawful, stored-length, took-sound, sent-sound}
+use Rattle.rom_flow.proofs.Laws.{is-line, lawful, stored-length, took-sound, sent-sound}
 use Rattle.rom.proofs.Records.{decoded-sound, reads-back}
 
 pub starts-fresh : StartsFresh

@@ -6,10 +6,10 @@ use mathlib.Core.Path.{_≡_, refl, ap, subst}
 use mathlib.Core.Bool.{Bool, true, false, cond}
 use lib.Dec.{eqb, leb, ltb}
 use borrow.Author.Tests.{leb-true, ltb-true, eqb-false, le-leb, lt-ltb, ne-eqb}
-use Rattle.rom.specs.declared.kind.Kind.{Kind}
-use Rattle.rom.specs.declared.kind.Kind.the-variants.{P, E}
-use Rattle.rom.specs.declared.step.Step.{Step}
-use Rattle.rom.specs.declared.step.Step.the-variants.{SendStx, TakeSoh, TakeLow, TakeHigh, TakeExtendedLow, TakeExtendedHigh, SendAck, TakeCode, SendXor, TakeAck, SendNak, Running}
+use Rattle.rom_flow.specs.declared.kind.Kind.{Kind}
+use Rattle.rom_flow.specs.declared.kind.Kind.the-variants.{P, E}
+use Rattle.rom_flow.specs.declared.step.Step.{Step}
+use Rattle.rom_flow.specs.declared.step.Step.the-variants.{SendStx, TakeSoh, TakeLow, TakeHigh, TakeExtendedLow, TakeExtendedHigh, SendAck, TakeCode, SendXor, TakeAck, SendNak, Running}
 use Rattle.rom.specs.declared.record.Numbers.{Numbers}
 use Rattle.rom.specs.declared.record.Found.{Found}
 use Rattle.rom.specs.declared.record.Found.the-variants.{At}
@@ -18,7 +18,7 @@ use Rattle.rom.specs.declared.record.Decoded.{Decoded}
 use Rattle.rom.specs.declared.record.Decoded.the-variants as decoded
 use Rattle.machine.specs.declared.Record.{Record}
 use Rattle.rom.specs.Record.{fields, fieldsOf, written, sized, coded, extended, stepIn, withKind, decodedOf}
-use Rattle.rom.specs.Sound.{SoundStep, Sized, Extends}
+use Rattle.rom_flow.specs.Sound.{SoundStep, Sized, Extends}
 
 -- what holds of both branches holds of the test
 in-cond : {A : Type 0} (Q : A → Type 0) (t : Bool) (a b : A) → (t ≡ true → Q a) → (t ≡ false → Q b) → Q (cond t a b)

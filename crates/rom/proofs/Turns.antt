@@ -12,21 +12,20 @@ use borrow.Author.Tests.{lt-ltb}
 use Rattle.machine.specs.Machine as machine
 use Rattle.machine.specs.Loop.{Acted}
 use Rattle.machine.proofs.Loops.{Reached, reached-start, reached-take, reached-send, acted-hungry, acted-choked, acted-runs}
-use Rattle.rom.specs.declared.kind.Kind.{Kind}
-use Rattle.rom.specs.declared.step.Step.{Step}
-use Rattle.rom.specs.declared.step.Step.the-variants as step
-use Rattle.rom.specs.declared.step.Output.{Output}
-use Rattle.rom.specs.declared.step.Ask.{Ask}
-use Rattle.rom.specs.declared.step.Ask.the-variants.{TakeByte, TakeCode, Send, Halt}
-use Rattle.rom.specs.declared.step.Progress.{Progress}
-use Rattle.rom.specs.Flow as flow
-use Rattle.rom.specs.Ask.{askOf, needOf, outputOf}
-use Rattle.rom.specs.Receiver.{took, sent, receiver}
-use Rattle.rom.specs.Session.{state}
-use Rattle.rom.specs.Sound.{Ready}
-use Rattle.rom.specs.Copied.{Copied}
-use Rattle.rom.proofs.Steps.{ask-inside, asks-code, InAsk}
-use Rattle.rom.proofs.Laws.{lawful-any, took-sound, sent-sound, stored-length}
+use Rattle.rom_flow.specs.declared.kind.Kind.{Kind}
+use Rattle.rom_flow.specs.declared.step.Step.{Step}
+use Rattle.rom_flow.specs.declared.step.Step.the-variants as step
+use Rattle.rom_flow.specs.declared.step.Output.{Output}
+use Rattle.rom_flow.specs.declared.step.Ask.{Ask}
+use Rattle.rom_flow.specs.declared.step.Ask.the-variants.{TakeByte, TakeCode, Send, Halt}
+use Rattle.rom_flow.specs.declared.step.Progress.{Progress}
+use Rattle.rom_flow.specs.Flow as flow
+use Rattle.rom_flow.specs.Ask.{askOf, needOf, outputOf}
+use Rattle.rom_flow.specs.Receiver.{took, sent, receiver, state}
+use Rattle.rom_flow.specs.Sound.{Ready}
+use Rattle.rom_flow.specs.Copied.{Copied}
+use Rattle.rom_flow.proofs.Steps.{ask-inside, asks-code, InAsk}
+use Rattle.rom_flow.proofs.Laws.{lawful-any, took-sound, sent-sound, stored-length}
 
 -- a call at first, reason₀, ram₀ has come to s, last, ram, with i bytes taken and j sent
 pub record Turn (kind : Kind) (first : Step) (reason₀ : ℕ) (ram₀ input old : List ℕ) (s : Step) (last : ℕ) (ram reply : List ℕ) (i j : ℕ) : Type 0 where

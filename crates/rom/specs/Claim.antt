@@ -9,11 +9,11 @@ use lib.Dec.{eqb}
 use Rattle.machine.specs.Machine.{isRunning}
 use Rattle.machine.specs.History.{Event}
 use Rattle.machine.specs.SessionClaim.{Claim, MadeClaim}
-use Rattle.rom.specs.declared.kind.Kind.{Kind}
-use Rattle.rom.specs.declared.step.Step.{Step}
-use Rattle.rom.specs.declared.step.Step.the-variants.{SendStx, TakeSoh, TakeLow, TakeHigh, TakeExtendedLow, TakeExtendedHigh, SendAck, TakeCode, SendXor, TakeAck, SendNak, Running}
-use Rattle.rom.specs.Flow.{ack}
-use Rattle.rom.specs.Receiver.{State, fresh, need}
+use Rattle.rom_flow.specs.declared.kind.Kind.{Kind}
+use Rattle.rom_flow.specs.declared.step.Step.{Step}
+use Rattle.rom_flow.specs.declared.step.Step.the-variants.{SendStx, TakeSoh, TakeLow, TakeHigh, TakeExtendedLow, TakeExtendedHigh, SendAck, TakeCode, SendXor, TakeAck, SendNak, Running}
+use Rattle.rom_flow.specs.Flow.{ack}
+use Rattle.rom_flow.specs.Receiver.{State, fresh, need}
 use Rattle.rom.specs.Session.{rom}
 
 -- the step that takes the byte after the XOR

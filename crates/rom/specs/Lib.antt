@@ -1,9 +1,4 @@
-pub mod Flow
-pub mod Ask
-pub mod Copied
-pub mod Receiver
 pub mod Record
 pub mod Session
-pub mod Sound
 pub mod Reach
 pub mod Claim

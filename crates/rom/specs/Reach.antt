@@ -6,8 +6,8 @@ use mathlib.Core.List.{List}
 use lib.ListN.{length}
 use Rattle.machine.specs.Session.{answerOf}
 use Rattle.machine.specs.declared.Record.{Record}
-use Rattle.rom.specs.declared.kind.Kind.{Kind}
-use Rattle.rom.specs.Receiver.{fresh}
+use Rattle.rom_flow.specs.declared.kind.Kind.{Kind}
+use Rattle.rom_flow.specs.Receiver.{fresh}
 use Rattle.rom.specs.Record.{kindNumber}
 use Rattle.rom.specs.Session.{freshRecord, rom}
 

@@ -9,19 +9,14 @@ use Rattle.wire.specs.Length.{isRamLength, badRam}
 use Rattle.machine.specs.Session.{Read, sound, unsound, Session, Answer}
 use Rattle.machine.specs.declared.Record.{Record}
 use Rattle.machine.specs.declared.Report.{Report}
-use Rattle.rom.specs.declared.kind.Kind.{Kind}
-use Rattle.rom.specs.declared.step.Step.{Step}
 use Rattle.rom.specs.declared.record.Decoded.{Decoded}
 use Rattle.rom.specs.declared.record.Decoded.the-variants.{Sound, Unsound}
-use Rattle.rom.specs.Receiver.{State, receiver}
+use Rattle.rom_flow.specs.Receiver.{State, state, receiver}
 use Rattle.rom.specs.Record.{written, decodedOf}
 
 -- a fresh record with this kind number, known or not
 abbrev pub freshRecord : (kind : ℕ) → Record
 freshRecord kind = record { kind = kind; phase = 0; opcode = 0; length = 0; place = 0; held = 0; reason = 0; spare = 0 }
-
-abbrev pub state : Kind → Step → (reason : ℕ) (ram : List ℕ) → State
-state kind step reason ram = record { kind = kind; step = step; reason = reason; ram = ram }
 
 abbrev pub readOf : Decoded → (reason : ℕ) (ram : List ℕ) → Read State
 readOf (Sound kind step) reason ram = sound (state kind step reason ram)

@@ -1,7 +1,3 @@
-// The ROM's UART receiver: a session that loads code into RAM and runs it.
-pub mod flow;
-pub mod kind;
+// The ROM's UART receiver as a session: its record, and the call that loads code into RAM and runs it.
 pub mod record;
 pub mod session;
-pub mod step;
-pub mod store;

@@ -1,9 +1,9 @@
 // The receiver's record: a step in numbers, and back.
 ghost use mathlib.Core.Path.{_≡_};
 ghost use Rattle.rom.specs.Record.{kindNumber, fieldsOf, written, sized, extended, coded, stepIn, withKind, decodedOf};
-use crate::kind::Kind;
-use crate::step::Step;
 use machine::Record;
+use rom_flow::kind::Kind;
+use rom_flow::step::Step;
 
 // A step in numbers. `held` is the low byte of a length.
 pub struct Numbers {

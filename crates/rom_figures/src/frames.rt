@@ -10,7 +10,7 @@ use crate::text::decimal;
 use crate::text::sums;
 use frame::Framed;
 use frame::frame;
-use rom::kind::Kind;
+use rom_flow::kind::Kind;
 
 fn framed(kind: usize, code: &[u8], output: &mut [u8]) -> Framed {
     if kind == 0 {

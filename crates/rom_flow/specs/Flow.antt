@@ -1,0 +1,101 @@
+-- The receiver's flow (01, "ROM receiver", and "Numbers given back": reasons 31 to 34).
+-- Assumes nothing.
+use Prim.Native.Nat.{ℕ, _+_, _*_}
+use mathlib.Core.Bool.{cond}
+use lib.Dec.{eqb, leb, ltb}
+use Rattle.rom_flow.specs.declared.kind.Kind.{Kind}
+use Rattle.rom_flow.specs.declared.kind.Kind.the-variants.{P, E}
+use Rattle.rom_flow.specs.declared.step.Step.{Step}
+use Rattle.rom_flow.specs.declared.step.Step.the-variants.{SendStx, TakeSoh, TakeLow, TakeHigh, TakeExtendedLow, TakeExtendedHigh, SendAck, TakeCode, SendXor, TakeAck, SendNak, Running}
+use Rattle.rom_flow.specs.declared.step.Progress.{Progress}
+
+-- the bytes of the line: 02, 01, 06, 15
+abbrev pub stx : ℕ
+stx = 0x02
+
+abbrev pub soh : ℕ
+soh = 0x01
+
+abbrev pub ack : ℕ
+ack = 0x06
+
+abbrev pub nak : ℕ
+nak = 0x15
+
+-- the reasons: the first byte is not 01, kind P with length 0, a length above the RAM, a last byte other than 06
+abbrev pub notSoh : ℕ
+notSoh = 31
+
+abbrev pub emptyCode : ℕ
+emptyCode = 32
+
+abbrev pub longCode : ℕ
+longCode = 33
+
+abbrev pub notAcked : ℕ
+notAcked = 34
+
+abbrev pub to : Step → (reason : ℕ) → Progress
+to step reason = record { step = step; reason = reason }
+
+-- a length that is not zero, with a RAM of `size` bytes
+abbrev pub judged : (size reason length : ℕ) → Progress
+judged size reason length = cond (leb length size) (to (SendAck length) reason) (to SendNak longCode)
+
+-- both length bytes zero: kind P refuses, kind E takes two more
+abbrev pub zeroLength : Kind → (reason : ℕ) → Progress
+zeroLength P reason = to SendNak emptyCode
+zeroLength E reason = to TakeExtendedLow reason
+
+-- a length of two bytes
+abbrev pub headed : Kind → (size reason length : ℕ) → Progress
+headed kind size reason length = cond (eqb length 0) (zeroLength kind reason) (judged size reason length)
+
+-- where `count` of the code's bytes are in
+abbrev pub codeStep : (length count : ℕ) → Step
+codeStep length count = cond (ltb count length) (TakeCode length count) (SendXor length)
+
+-- what a taken byte does; a step that takes none stays
+abbrev pub took : Kind → (size : ℕ) → Step → (reason byte : ℕ) → Progress
+took kind size TakeSoh reason byte = cond (eqb byte soh) (to TakeLow reason) (to SendNak notSoh)
+took kind size TakeLow reason byte = to (TakeHigh byte) reason
+took kind size (TakeHigh low) reason byte = headed kind size reason (low + 256 * byte)
+took kind size TakeExtendedLow reason byte = to (TakeExtendedHigh byte) reason
+took kind size (TakeExtendedHigh low) reason byte = judged size reason (65536 + (low + 256 * byte))
+took kind size (TakeCode length place) reason byte = to (codeStep length (place + 1)) reason
+took kind size (TakeAck length) reason byte = cond (eqb byte ack) (to Running reason) (to SendStx notAcked)
+took kind size SendStx reason byte = to SendStx reason
+took kind size (SendAck length) reason byte = to (SendAck length) reason
+took kind size (SendXor length) reason byte = to (SendXor length) reason
+took kind size SendNak reason byte = to SendNak reason
+took kind size Running reason byte = to Running reason
+
+-- the step once its byte is sent; a step that sends none stays
+abbrev pub sent : Step → Step
+sent SendStx = TakeSoh
+sent (SendAck length) = TakeCode length 0
+sent (SendXor length) = TakeAck length
+sent SendNak = SendStx
+sent TakeSoh = TakeSoh
+sent TakeLow = TakeLow
+sent (TakeHigh low) = TakeHigh low
+sent TakeExtendedLow = TakeExtendedLow
+sent (TakeExtendedHigh low) = TakeExtendedHigh low
+sent (TakeCode length place) = TakeCode length place
+sent (TakeAck length) = TakeAck length
+sent Running = Running
+
+-- how many bytes are sent from here before one is taken
+abbrev pub due : Step → ℕ
+due SendStx = 1
+due (SendAck length) = 1
+due (SendXor length) = 1
+due SendNak = 2
+due TakeSoh = 0
+due TakeLow = 0
+due (TakeHigh low) = 0
+due TakeExtendedLow = 0
+due (TakeExtendedHigh low) = 0
+due (TakeCode length place) = 0
+due (TakeAck length) = 0
+due Running = 0

@@ -1,0 +1,43 @@
+-- What holds of every state that calls can reach.
+-- Assumes nothing.
+use Prim.Native.Nat.{ℕ, _≤_, _<_}
+use mathlib.Core.Path.{_≡_}
+use mathlib.Core.Bool.{true}
+use mathlib.Core.List.{List}
+use lib.ListN.{length}
+use Rattle.wire.specs.Length.{isRamLength}
+use Rattle.rom_flow.specs.declared.kind.Kind.{Kind}
+use Rattle.rom_flow.specs.declared.kind.Kind.the-variants.{P, E}
+use Rattle.rom_flow.specs.declared.step.Step.{Step}
+use Rattle.rom_flow.specs.declared.step.Step.the-variants.{SendStx, TakeSoh, TakeLow, TakeHigh, TakeExtendedLow, TakeExtendedHigh, SendAck, TakeCode, SendXor, TakeAck, SendNak, Running}
+use Rattle.rom_flow.specs.Receiver.{State}
+
+abbrev pub Extends : Kind → Type 0
+Extends P = ⊥
+Extends E = Unit {0}
+
+-- code of 1 byte or more, and no more than a RAM of `size` bytes
+abbrev pub Sized : (size length : ℕ) → Type 0
+Sized size length = (0 < length) × (length ≤ size)
+
+abbrev pub SoundStep : Kind → (size : ℕ) → Step → Type 0
+SoundStep kind size SendStx = Unit {0}
+SoundStep kind size TakeSoh = Unit {0}
+SoundStep kind size TakeLow = Unit {0}
+SoundStep kind size (TakeHigh low) = Unit {0}
+SoundStep kind size TakeExtendedLow = Extends kind
+SoundStep kind size (TakeExtendedHigh low) = Extends kind
+SoundStep kind size (SendAck length) = Sized size length
+SoundStep kind size (TakeCode length place) = (place < length) × (length ≤ size)
+SoundStep kind size (SendXor length) = Sized size length
+SoundStep kind size (TakeAck length) = Sized size length
+SoundStep kind size SendNak = Unit {0}
+SoundStep kind size Running = Unit {0}
+
+-- a step to go on from, with this RAM
+pub record Ready (kind : Kind) (step : Step) (ram : List ℕ) : Type 0 where
+  pub fits : isRamLength (length ram) ≡ true
+  pub step-sound : SoundStep kind (length ram) step
+
+abbrev pub Sound : State → Type 0
+Sound s = Ready (s .kind) (s .step) (s .ram)
