@@ -1,10 +1,10 @@
 // CRC-16 and CRC-32: the check figures that catalogues print, bytes in two parts, and some kilobytes.
 ghost use Prim.Native.Nat.{_≤_};
 ghost use lib.ListN.{length};
-use crate::text::hex;
-use crate::text::text;
 use crc::crc16;
 use crc::crc32;
+use show::hex;
+use show::text;
 
 fn line(short: u16, long: u32, name: &[u8]) {
     text(b"CRC-16 ");

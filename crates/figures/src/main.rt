@@ -2,7 +2,6 @@
 mod checksums;
 mod numbers;
 mod ranges;
-mod text;
 
 fn main() {
     checksums::run();

@@ -1,7 +1,7 @@
 // Numbers at the edges of the bytes 12 34 56 78 9A.
-use crate::text::decimal;
-use crate::text::hex;
-use crate::text::text;
+use show::decimal;
+use show::hex;
+use show::text;
 use wire::number::Reading;
 
 fn line(width: u64, place: usize, found: Reading) {

@@ -1,7 +1,7 @@
 // Ranges at the edges of RAM and of flash.
-use crate::text::decimal;
-use crate::text::hex;
-use crate::text::text;
+use show::decimal;
+use show::hex;
+use show::text;
 use wire::range::Place;
 use wire::unit::FlashOffset;
 use wire::unit::RamAddress;

@@ -10,8 +10,8 @@ ghost use Prim.Native.Nat.{_<_};
 ghost use lib.ListN.{length};
 use crate::row::piece;
 use crate::row::pieces;
-use crate::text::text;
 use libc::STDIN_FILENO;
+use show::text;
 
 fn show_answer(row: &[u8], bytes: &mut [u8], memory: &mut [u8])
     requires { ⌜ 0 < length (now row) ⌝ }

@@ -9,11 +9,11 @@ use crate::row::pieces;
 use crate::text::bytes;
 use crate::text::decimal;
 use crate::text::sums;
-use crate::text::text;
 use machine::Record;
 use machine::Report;
 use rom::session::Receiver;
 use rom::session::call;
+use show::text;
 use std::num::wrapping_add_usize;
 
 // Room for all replies of a row.

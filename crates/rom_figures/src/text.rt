@@ -1,28 +1,16 @@
-// Words, numbers and bytes on standard output.
-use libc::STDOUT_FILENO;
+// Named numbers and bytes on standard output.
 use std::num::wrapping_add_u64;
-
-pub fn text(bytes: &[u8]) {
-    io::write_all(STDOUT_FILENO, bytes);
-}
 
 // A number, behind its name.
 pub fn decimal(name: &[u8], number: u64) {
-    text(name);
-    io::print_decimal(STDOUT_FILENO, number);
-}
-
-fn byte(value: u8) {
-    text(b" ");
-    io::print_hex(STDOUT_FILENO, value as u64, 2);
+    show::text(name);
+    show::decimal(number);
 }
 
 // Bytes in hexadecimal, behind their name.
 pub fn bytes(name: &[u8], bytes: &[u8]) {
-    text(name);
-    for i in 0..bytes.len() {
-        byte(bytes[i]);
-    }
+    show::text(name);
+    show::bytes(bytes);
 }
 
 fn wide(byte: u8) -> u64 {

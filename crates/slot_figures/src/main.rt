@@ -11,8 +11,8 @@ mod versions;
 
 use crate::row::line_end;
 use crate::row::replace_marks;
-use crate::text::text;
 use libc::STDIN_FILENO;
+use show::text;
 
 fn show_answer(room: &mut [u8], row: &[u8]) {
     if row.len() == 0 {

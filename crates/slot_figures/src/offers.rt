@@ -4,10 +4,10 @@ use crate::file::store;
 use crate::file::stored;
 use crate::row::part;
 use crate::text::answer;
-use crate::text::bytes;
-use crate::text::text;
 use offer::judge;
 use offer::offer;
+use show::bytes;
+use show::text;
 
 fn show_judged(installed: &[u8], candidate: &[u8]) {
     let offered = judge(installed, candidate);

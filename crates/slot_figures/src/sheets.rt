@@ -5,11 +5,11 @@ use crate::file::stored;
 use crate::row::number;
 use crate::row::part;
 use crate::text::answer;
-use crate::text::bytes;
-use crate::text::text;
 use sheet::code_of;
 use sheet::part_at;
 use sheet::place_of;
+use show::bytes;
+use show::text;
 
 fn show_file(file: &[u8], place: usize) {
     let placed = place_of(file);

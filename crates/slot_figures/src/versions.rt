@@ -1,7 +1,7 @@
 // Ranks of version fields, and orders of two.
 use crate::row::part;
 use crate::text::answer;
-use crate::text::text;
+use show::text;
 use version::order::order;
 use version::rank::rank;
 

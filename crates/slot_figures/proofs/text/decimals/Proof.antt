@@ -15,14 +15,14 @@ abbrev μ-loop : tie.MeasureT-loop
 loop-holds : tie.Need-loop-holds Inv-loop μ-loop
 loop-holds c = search needs
 
-mul-decimal : tie.Need-mul-decimal Inv-loop μ-loop
-mul-decimal c = search needs
+mul-blank-decimal : tie.Need-mul-blank-decimal Inv-loop μ-loop
+mul-blank-decimal c = search needs
 
-shared-slice-read-decimal : tie.Need-shared-slice-read-decimal Inv-loop μ-loop
-shared-slice-read-decimal c = search needs
+shared-slice-read-blank-decimal : tie.Need-shared-slice-read-blank-decimal Inv-loop μ-loop
+shared-slice-read-blank-decimal c = search needs
 
-decimal-requires : tie.Need-decimal-requires Inv-loop μ-loop
-decimal-requires c κs = search needs
+blank-decimal-requires : tie.Need-blank-decimal-requires Inv-loop μ-loop
+blank-decimal-requires c κs = search needs
 
 add-i : tie.Need-add-i Inv-loop μ-loop
 add-i c = search needs
@@ -43,9 +43,9 @@ decimals-spec =
     Inv-loop
     μ-loop
     loop-holds
-    mul-decimal
-    shared-slice-read-decimal
-    decimal-requires
+    mul-blank-decimal
+    shared-slice-read-blank-decimal
+    blank-decimal-requires
     add-i
     loop-less
     loop-again

@@ -1,10 +1,10 @@
--- `slot_figures::text::bytes`: every index is below the length.
+-- `show::bytes`: every index is below the length.
 -- Assumes nothing.
 use Prim.Native.Nat.{_≤_, _-_}
 use lib.ListN.{length}
 use borrow.Author.Needs.{needs}
-use Rattle.slot_figures.proofs.text.bytes.Statement.{statement}
-use Rattle.slot_figures.proofs.text.bytes.Tie as tie
+use Rattle.show.proofs.bytes.Statement.{statement}
+use Rattle.show.proofs.bytes.Tie as tie
 
 abbrev Inv-loop : tie.InvT-loop
 Inv-loop bytes i₀ i-end i = i ≤ length bytes
