@@ -8,6 +8,7 @@ use lib.ListN.{length}
 use Rattle.memory.specs.Store.{laid}
 use Rattle.rom_flow.specs.declared.kind.Kind.{Kind}
 use Rattle.rom_flow.specs.declared.kind.Kind.the-variants.{P, E}
+use Rattle.rom_flow.specs.Flow.{soh, ack, firstExtended}
 use Rattle.frame.specs.declared.Framed.{Framed}
 
 -- the longest code that the length field of a kind can tell
@@ -22,17 +23,17 @@ pair n = n % 256 ∷ n / 256 ∷ []
 -- only kind E has an extended length field, for lengths from 65,536 on
 abbrev pub isExtended : Kind → (count : ℕ) → Bool
 isExtended P count = false
-isExtended E count = leb 65536 count
+isExtended E count = leb firstExtended count
 
 -- the shortest length field: two bytes; extended, 00 00 and two bytes of what the length is more than 65,536
 unfoldable pub lengthField : Kind → (count : ℕ) → List ℕ
-lengthField kind count = cond (isExtended kind count) (0 ∷ 0 ∷ pair (count - 65536)) (pair count)
+lengthField kind count = cond (isExtended kind count) (0 ∷ 0 ∷ pair (count - firstExtended)) (pair count)
 
 abbrev pub headerOf : Kind → (count : ℕ) → List ℕ
-headerOf kind count = 0x01 ∷ lengthField kind count
+headerOf kind count = soh ∷ lengthField kind count
 
 abbrev pub frameOf : Kind → (code : List ℕ) → List ℕ
-frameOf kind code = headerOf kind (length code) ++ code ++ 0x06 ∷ []
+frameOf kind code = headerOf kind (length code) ++ code ++ ack ∷ []
 
 -- the numbers given for no code, for a code that is too long, for an output that is shorter than the frame
 abbrev pub emptyCode : ℕ

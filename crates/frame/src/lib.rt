@@ -6,6 +6,9 @@ ghost use lib.Seq.{sets};
 ghost use Rattle.memory.specs.Store.{laid};
 ghost use Rattle.frame.specs.Frame.{longest, pair, isExtended, headerOf, frameOf, refused, written, framedOf};
 use memory::store::lay;
+use rom_flow::flow::ACK;
+use rom_flow::flow::FIRST_EXTENDED;
+use rom_flow::flow::SOH;
 use rom_flow::kind::Kind;
 
 // The number given where there is no code.
@@ -22,15 +25,6 @@ pub const LONGEST_P: usize = 65_535;
 
 // The longest code of kind E.
 pub const LONGEST_E: usize = 131_071;
-
-// The first length of kind E with an extended field: 00 00, and two bytes of what the length is more than this.
-pub const EXTENDED: usize = 65_536;
-
-// The first byte of a frame.
-pub const FIRST: u8 = 0x01;
-
-// The last byte of a frame, by which the host confirms the receiver's checksum.
-pub const LAST: u8 = 0x06;
 
 // The number 0 and the frame's length, or a refusal's number and length 0.
 #[repr(C)]
@@ -63,7 +57,7 @@ fn is_extended(kind: Kind, count: usize) -> bool
 {
     match kind {
         Kind::P => false,
-        Kind::E => EXTENDED <= count,
+        Kind::E => FIRST_EXTENDED <= count,
     }
 }
 
@@ -88,11 +82,11 @@ fn put_header(kind: Kind, count: usize, out: &mut [u8])
     requires { ⌜ (count ≤ longest kind) × (length (headerOf kind count) ≤ length (now out)) ⌝ }
     ensures { λ _. ⌜ now (out .exit) ≡ laid (headerOf kind count) (now (out .entry)) ⌝ }
 {
-    out[0] = FIRST;
+    out[0] = SOH;
     if is_extended(kind, count) {
         out[1] = 0;
         out[2] = 0;
-        put_pair(out, 3, (count - EXTENDED) as u16);
+        put_pair(out, 3, (count - FIRST_EXTENDED) as u16);
         return;
     }
     put_pair(out, 1, count as u16);
@@ -106,7 +100,7 @@ fn put_frame(kind: Kind, code: &[u8], out: &mut [u8])
     let place = header_length(kind, code.len());
     put_header(kind, code.len(), out);
     lay(&mut out[place..], code);
-    out[place + code.len()] = LAST;
+    out[place + code.len()] = ACK;
 }
 
 // Writes the boot frame of a code to the front of the output. Where it is refused, the output stays as it was.

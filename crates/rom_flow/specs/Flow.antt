@@ -22,6 +22,10 @@ ack = 0x06
 abbrev pub nak : ℕ
 nak = 0x15
 
+-- the first length of kind E that is extended
+abbrev pub firstExtended : ℕ
+firstExtended = 65536
+
 -- the reasons: the first byte is not 01, kind P with length 0, a length above the RAM, a last byte other than 06
 abbrev pub notSoh : ℕ
 notSoh = 31
@@ -61,7 +65,7 @@ took kind size TakeSoh reason byte = cond (eqb byte soh) (to TakeLow reason) (to
 took kind size TakeLow reason byte = to (TakeHigh byte) reason
 took kind size (TakeHigh low) reason byte = headed kind size reason (low + 256 * byte)
 took kind size TakeExtendedLow reason byte = to (TakeExtendedHigh byte) reason
-took kind size (TakeExtendedHigh low) reason byte = judged size reason (65536 + (low + 256 * byte))
+took kind size (TakeExtendedHigh low) reason byte = judged size reason (firstExtended + (low + 256 * byte))
 took kind size (TakeCode length place) reason byte = to (codeStep length (place + 1)) reason
 took kind size (TakeAck length) reason byte = cond (eqb byte ack) (to Running reason) (to SendStx notAcked)
 took kind size SendStx reason byte = to SendStx reason

@@ -23,6 +23,9 @@ pub const ACK: u8 = 0x06;
 // Refuses.
 pub const NAK: u8 = 0x15;
 
+// The first length of kind E that is extended: 00 00, and two bytes of what the length is more than this.
+pub const FIRST_EXTENDED: usize = 65_536;
+
 // The reason where a header doesn't start with 01.
 pub const NOT_SOH: u32 = 31;
 
@@ -130,7 +133,7 @@ pub fn took(kind: Kind, size: u32, step: Step, reason: u32, byte: u8) -> Progres
         Step::TakeLow => to(Step::TakeHigh(byte as u32), reason),
         Step::TakeHigh(low) => header(kind, size, reason, pair(low, byte)),
         Step::TakeExtendedLow => to(Step::TakeExtendedHigh(byte as u32), reason),
-        Step::TakeExtendedHigh(low) => judge(size, reason, 65536 + pair(low, byte)),
+        Step::TakeExtendedHigh(low) => judge(size, reason, FIRST_EXTENDED + pair(low, byte)),
         Step::TakeAck(_) => {
             if byte == ACK {
                 to(Step::Running, reason)

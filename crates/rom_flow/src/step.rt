@@ -23,7 +23,7 @@ pub enum Output {
     Xor(u32),
 }
 
-// What a step asks: a byte, code bytes (the code's length and the next place), room for a output, or nothing since code runs.
+// What a step asks: a byte, code bytes (the code's length and the next place), room for an output, or nothing since code runs.
 pub enum Ask {
     TakeByte,
     TakeCode(u32, u32),

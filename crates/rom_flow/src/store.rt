@@ -38,7 +38,7 @@ fn xor_of(ram: &[u8], count: usize) -> u8
     x
 }
 
-// The byte that is sent for a output.
+// The byte that is sent.
 pub fn byte_of(output: Output, ram: &[u8]) -> u8
     requires { ⌜ InRam output (length (now ram)) ⌝ }
     ensures { λ r. ⌜ r ≡ outputOf output (now (ram .entry)) ⌝ }
