@@ -48,8 +48,8 @@ refused-all σ session mem h rest (c ∷ cs) =
 abbrev callOf : Lent → Call
 callOf c = offered (c .shown) (length (c .reply))
 
-module _ {M S : Type 0} (σ : Session M S) {Told : List (Event ℕ S) → S → Type 0} {fresh : M → S} {Sound : S → Type 0}
-    (law : Faithful σ Told fresh Sound) where
+module _ {M S : Type 0} (σ : Session M S) {fresh : M → S} {Sound : S → Type 0} {Invariant Told : List (Event ℕ S) → S → Type 0}
+    (law : Faithful σ fresh Sound Invariant) (tells : (events : List (Event ℕ S)) (s : S) → Invariant events s → Told events s) where
   abbrev m : Machine ℕ S
   m = σ .machine
 
@@ -143,7 +143,7 @@ module _ {M S : Type 0} (σ : Session M S) {Told : List (Event ℕ S) → S → 
               (λ t. omega (arith, within, ltb-true (length (drop (p .taken) input)) views t, law .one-by-one (p .final) views takes f, length-drop (p .taken) input))
               (λ t. absurd (not-1 2 (rw (f, t) at e) (omega arith)))
 
-      follows : Told [] start → Follows σ Told start stream (given σ o)
+      follows : Invariant [] start → Follows σ Told start stream (given σ o)
       follows first =
           let h = came-holds m (law .lawful) start good stream w o c in
           let b = h .replies-begin in
@@ -157,7 +157,7 @@ module _ {M S : Type 0} (σ : Session M S) {Told : List (Event ℕ S) → S → 
             reached = o .final;
             reached-is = (refl, refl);
             history = c;
-            told = λ events p. path-keeps m (law .lawful) start stream (law .told-kept) w first p;
+            told = λ events p. tells events (o .final) (path-keeps m (law .lawful) start stream (law .kept) w first p);
           }
 
   -- the claim about a whole list of calls
@@ -174,7 +174,7 @@ module _ {M S : Type 0} (σ : Session M S) {Told : List (Event ℕ S) → S → 
             let came = calls-came m (law .lawful) s stream (map callOf cs) (halt s) (at-start m (law .lawful) s stream) in
             let came′ = rw (halt-join s (calls m s stream (map callOf cs))) at came in
             let same = rw (law .fresh-memories mem) at (totals-are s g stream w cs (halt s) (at-start m (law .lawful) s stream)) in
-            rw same (follows s g stream w (calls m s stream (map callOf cs)) came′ (law .told-first mem));
+            rw same (follows s g stream w (calls m s stream (map callOf cs)) came′ (law .at-first mem e));
       }
 
   -- and about what a program's calls gave back

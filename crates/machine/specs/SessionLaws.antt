@@ -13,8 +13,8 @@ use Rattle.machine.specs.Session.{Session, sound}
 abbrev pub Byte : ℕ → Type 0
 Byte b = b < 256
 
--- Sound: what every state that calls can reach satisfies. Told: what the events on the way say of a state
-pub record Faithful {M S : Type 0} (σ : Session M S) (Told : List (Event ℕ S) → S → Type 0) (fresh : M → S) (Sound : S → Type 0) : Type 0 where
+-- Sound: what every state that calls can reach satisfies. Invariant: what the events on the way and the state that they led to satisfy
+pub record Faithful {M S : Type 0} (σ : Session M S) (fresh : M → S) (Sound : S → Type 0) (Invariant : List (Event ℕ S) → S → Type 0) : Type 0 where
   pub lawful : Lawful (σ .machine) Byte Sound
   -- bytes are taken one by one, and an action with nothing in view sends
   pub one-by-one : (s : S) (views takes : ℕ) → σ .machine .need s ≡ acts views takes → views ≤ 1
@@ -25,6 +25,6 @@ pub record Faithful {M S : Type 0} (σ : Session M S) (Told : List (Event ℕ S)
   -- the lengths stay, and the record is read back
   pub fits : (s : S) → Sound s → σ .refusal (σ .memories s) ≡ 0
   pub reads-back : (s : S) → Sound s → σ .read (σ .write s) (σ .memories s) ≡ sound s
-  -- what the events say holds at the start, and every action keeps it
-  pub told-first : (mem : M) → Told [] (fresh mem)
-  pub told-kept : Kept (σ .machine) Byte Told
+  -- the invariant holds at the start, and every action keeps it
+  pub at-first : (mem : M) → σ .refusal mem ≡ 0 → Invariant [] (fresh mem)
+  pub kept : Kept (σ .machine) Byte Invariant

@@ -113,7 +113,7 @@ runs-sent events s e h =
     let none : acknowledged events ≡ false = sym h ∙ acts-waits (need s) (λ q. let z : _≡_ {A = ℕ} 0 1 = cc in omega arith) in
     sent-runs (s .step) e ∙ sym (or-false (awaitsAck (s .step) && false) (acknowledged events) none ∙ and-false (awaitsAck (s .step)))
 
-faithful : (kind : Kind) → Faithful rom RunsExactly (fresh kind) Sound
+faithful : (kind : Kind) → Faithful rom (fresh kind) Sound RunsExactly
 unfolding written
 faithful kind =
     record {
@@ -124,13 +124,13 @@ faithful kind =
       fresh-memories = λ ram. refl;
       fits = λ s g. rw (g .fits) refl;
       reads-back = λ s g. rw (reads-back (s .kind) (length (s .ram)) (s .step) (s .reason) (g .step-sound)) refl;
-      told-first = λ ram. refl;
-      told-kept = line-kept need took byte sent due is-line Byte RunsExactly runs-taken runs-sent;
+      at-first = λ ram e. refl;
+      kept = line-kept need took byte sent due is-line Byte RunsExactly runs-taken runs-sent;
     }
 
 -- the claim, for both kinds
 pub rom-claim : RomClaim
-rom-claim kind = session-claim rom (faithful kind)
+rom-claim kind = session-claim rom (faithful kind) (λ events s h. h)
 
 pub rom-made-claim : RomMadeClaim
-rom-made-claim kind = made-claim rom (faithful kind)
+rom-made-claim kind = made-claim rom (faithful kind) (λ events s h. h)
