@@ -8,3 +8,4 @@ pub mod Loops
 pub mod Lines
 pub mod Refusals
 pub mod Records
+pub mod Shapes

@@ -17,7 +17,7 @@ pub data Line (n : Need) : Type 0 where
   sends : n ≡ machine.send → Line n
   ends : n ≡ runs → Line n
 
-abbrev takesOf : Need → ℕ
+abbrev pub takesOf : Need → ℕ
 takesOf (acts views count) = count
 takesOf runs = 0
 
