@@ -3,7 +3,7 @@
 use Prim.Native.Nat.{ℕ, zero, suc, _+_, _-_, _≤_, _<_}
 use native.Mathlib.Omega.{arith}
 use mathlib.Core.Path.{_≡_, refl, sym, ap, _∙_}
-use mathlib.Core.Bool.{true, _&&_, and-false}
+use mathlib.Core.Bool.{and-false}
 use mathlib.Core.List.{List, []}
 use lib.Dec.{leb}
 use lib.ListN.{length, take, drop, length-drop}
@@ -48,35 +48,32 @@ module _ {A S : Type 0} (m : Machine A S) where
     Same k l = (s : S) (inp : List A) (room : ℕ) → length inp + room < k → length inp + room < l →
         act m k (m .need s) s inp room ≡ act m l (m .need s) s inp room
 
-    fuel-later : (k l : ℕ) → Same k l → (s : S) (inp : List A) (room views takes : ℕ) → m .need s ≡ acts views takes →
-        (leb views (length inp) && leb (length (m .says s (take views inp))) room) ≡ true → length inp + room ≤ k → length inp + room ≤ l →
+    fuel-later : (k l : ℕ) → Same k l → (s : S) (inp : List A) (room views takes : ℕ) → m .need s ≡ acts views takes → views ≤ length inp →
+        length (m .says s (take views inp)) ≤ room →
         let next = m .after s (take views inp) in
-        let said = m .says s (take views inp) in
-        act m k (m .need next) next (drop takes inp) (room - length said) ≡ act m l (m .need next) next (drop takes inp) (room - length said)
+        let left = room - length (m .says s (take views inp)) in
+        (length (drop takes inp) + left < length inp + room → length (drop takes inp) + left < k) →
+        (length (drop takes inp) + left < length inp + room → length (drop takes inp) + left < l) →
+        act m k (m .need next) next (drop takes inp) left ≡ act m l (m .need next) next (drop takes inp) left
     unfolding Same
-    fuel-later k l same s inp room views takes e t h g =
-        moved (law .moves s view views takes e (length-take-le views inp shown))
+    fuel-later k l same s inp room views takes e shown fits h g = moved (law .moves s view views takes e (length-take-le views inp shown))
       where
         view : List A
         view = take views inp
 
-        shown : views ≤ length inp
-        shown = leb-true _ _ (both-true (leb views (length inp)) (leb (length (m .says s view)) room) t .0)
-
-        fits : length (m .says s view) ≤ room
-        fits = leb-true _ _ (both-true (leb views (length inp)) (leb (length (m .says s view)) room) t .1)
+        left : ℕ
+        left = room - length (m .says s view)
 
         inside : takes ≤ views
         inside = law .takes-in-view s views takes e
 
-        left : length (drop takes inp) ≡ length inp - takes
-        left = length-drop takes inp
+        rest : length (drop takes inp) ≡ length inp - takes
+        rest = length-drop takes inp
 
-        moved : Moves m s view views takes →
-            act m k (m .need (m .after s view)) (m .after s view) (drop takes inp) (room - length (m .says s view))
-            ≡ act m l (m .need (m .after s view)) (m .after s view) (drop takes inp) (room - length (m .says s view))
-        moved (takes-one p) = same _ _ _ (omega (arith, shown, fits, inside, left)) (omega (arith, shown, fits, inside, left))
-        moved (sends-one p q) = same _ _ _ (omega (arith, shown, fits, inside, left)) (omega (arith, shown, fits, inside, left))
+        moved : Moves m s view views takes → act m k (m .need (m .after s view)) (m .after s view) (drop takes inp) left
+            ≡ act m l (m .need (m .after s view)) (m .after s view) (drop takes inp) left
+        moved (takes-one p) = let less : length (drop takes inp) + left < length inp + room = omega (arith, shown, fits, inside, rest) in same _ _ _ (h less) (g less)
+        moved (sends-one p q) = let less : length (drop takes inp) + left < length inp + room = omega (arith, shown, fits, inside, rest) in same _ _ _ (h less) (g less)
         moved (stops p) = rw p (act-run k _ _ _ ∙ sym (act-run l _ _ _))
 
     fuel-step : (k l : ℕ) → Same k l → Same (suc k) (suc l)
@@ -86,7 +83,10 @@ module _ {A S : Type 0} (m : Machine A S) where
         go : (n : Need) → m .need s ≡ n → act m (suc k) n s inp room ≡ act m (suc l) n s inp room
         go runs e = refl
         go (acts views takes) e = cond-same _ _ _ _ (λ t.
-            ap (join (acted (m .says s (take views inp)) takes (m .after s (take views inp)))) (fuel-later k l same s inp room views takes e t (omega arith) (omega arith)))
+            let said = m .says s (take views inp) in
+            let both = both-true (leb views (length inp)) (leb (length said) room) t in
+            ap (join (acted said takes (m .after s (take views inp))))
+            (fuel-later k l same s inp room views takes e (leb-true _ _ (both .0)) (leb-true _ _ (both .1)) (λ less. omega (arith, less)) (λ less. omega (arith, less))))
 
     -- more actions than can be made change nothing
     act-fuel : (k l : ℕ) → Same k l
@@ -103,33 +103,11 @@ module _ {A S : Type 0} (m : Machine A S) where
         call m s inp room ≡ join (acted said takes next) (call m next (drop takes inp) (room - length said))
     unfolding Same call act
     call-act s inp room views takes e shown fits =
+        let said = m .says s (take views inp) in
         rw e (simp (le-leb _ _ shown, le-leb _ _ fits)
-        (ap (join (acted (m .says s view) takes (m .after s view))) (moved (law .moves s view views takes e (length-take-le views inp shown)))))
-      where
-        view : List A
-        view = take views inp
-
-        inside : takes ≤ views
-        inside = law .takes-in-view s views takes e
-
-        rest : List A
-        rest = drop takes inp
-
-        left : length rest ≡ length inp - takes
-        left = length-drop takes inp
-
-        remain : ℕ
-        remain = room - length (m .says s view)
-
-        enough : length rest + remain < suc (length rest + remain)
-        enough = omega arith
-
-        moved : Moves m s view views takes →
-            act m (length inp + room) (m .need (m .after s view)) (m .after s view) rest remain
-            ≡ act m (suc (length rest + remain)) (m .need (m .after s view)) (m .after s view) rest remain
-        moved (takes-one p) = act-fuel (length inp + room) (suc (length rest + remain)) _ rest remain (omega (arith, shown, fits, inside, left)) enough
-        moved (sends-one p q) = act-fuel (length inp + room) (suc (length rest + remain)) _ rest remain (omega (arith, shown, fits, inside, left)) enough
-        moved (stops p) = rw p (act-run (length inp + room) (m .after s view) rest remain ∙ sym (act-run (suc (length rest + remain)) (m .after s view) rest remain))
+        (ap (join (acted said takes (m .after s (take views inp))))
+        (fuel-later (length inp + room) (suc (length (drop takes inp) + (room - length said))) (act-fuel _ _) s inp room views takes e shown fits
+        (λ less. less) (λ less. omega arith))))
 
     -- what is due, with nothing due and with one action more
     drain-take : (s : S) (views takes : ℕ) → m .need s ≡ acts (suc views) takes → drain m s ≡ halt s

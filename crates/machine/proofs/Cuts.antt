@@ -1,15 +1,12 @@
 -- Cuts and rooms never change the outcome: the claim, over any lawful machine.
 -- Assumes nothing.
-use Prim.Native.Nat.{ℕ, _+_, _≤_, _<_}
+use Prim.Native.Nat.{ℕ, _+_, _≤_}
 use native.Mathlib.Omega.{arith}
-use mathlib.Core.Path.{_≡_, refl, sym, ap, _∙_}
+use mathlib.Core.Path.{_≡_, sym, ap, _∙_}
 use mathlib.Core.List.{List, _++_}
-use lib.Dec.{ltb}
 use lib.ListN.{length, take, drop, length-append, take-append-drop}
 use lib.Seq.{drop-drop}
-use borrow.Author.Tests.{ltb-true}
-use borrow.Table.Steps.{cases}
-use Rattle.machine.specs.Machine.{Need, acts, runs, Machine}
+use Rattle.machine.specs.Machine.{acts, Machine}
 use Rattle.machine.specs.Outcome.{Outcome, halt, join}
 use Rattle.machine.specs.Call.{call, calls}
 use Rattle.machine.specs.Uncut.{uncut}
@@ -19,27 +16,15 @@ use Rattle.machine.specs.Claim.{Begins, Stopped, waits, running, Holds, 
 use Rattle.machine.proofs.Outcomes.{halt-join, join-halt}
 use Rattle.machine.proofs.Actions.{uncut-run, uncut-short, uncut-act}
 use Rattle.machine.proofs.Paths.{begins-take, begins-drop, path-keeps, call-came, calls-came, at-start, path-continues, uncut-came}
-use Rattle.machine.proofs.Stops.{unless-full, call-blocked, uncut-stops}
+use Rattle.machine.proofs.Stops.{stands-running, stands-waiting, unless-full, call-blocked, uncut-stops}
 
 module _ {A S : Type 0} (m : Machine A S) {Good : A → Type 0} {Sound : S → Type 0} (law : Lawful m Good Sound) where
   -- the uncut definition does nothing where a machine has stopped
   stopped-uncut : (s : S) (left : List A) → Stopped m s left → uncut m s left ≡ halt s
-  stopped-uncut s left (running e) = go (m .need s) refl
-    where
-      go : (n : Need) → m .need s ≡ n → uncut m s left ≡ halt s
-      go runs f = uncut-run m law s left f
-      go (acts views takes) f = absurd (cases (ltb (length left) views) (λ t. not-3 1 (rw (f, t) at e) (omega arith)) (λ t. not-3 2 (rw (f, t) at e) (omega arith)))
-        where
-          not-3 : (n : ℕ) → n ≡ 3 → n < 3 → ⊥
-          not-3 n q h = omega arith
-  stopped-uncut s left (waits e) = go (m .need s) refl
-    where
-      go : (n : Need) → m .need s ≡ n → uncut m s left ≡ halt s
-      go runs f = uncut-run m law s left f
-      go (acts views takes) f = cases (ltb (length left) views) (λ t. uncut-short m law s left views takes f (ltb-true _ _ t)) (λ t. absurd (not-1 2 (rw (f, t) at e) (omega arith)))
-        where
-          not-1 : (n : ℕ) → n ≡ 1 → 1 < n → ⊥
-          not-1 n q h = omega arith
+  stopped-uncut s left (running e) = uncut-run m law s left (stands-running (m .need s) (length left) e)
+  stopped-uncut s left (waits e) =
+      let l = stands-waiting (m .need s) (length left) e in
+      uncut-short m law s left (l .views) (l .takes) (l .need-is) (l .less)
 
   module _ (start : S) (g : Sound start) (stream : List A) (w : Every Good stream) where
     -- what has come to o: the definition goes on from there

@@ -4,11 +4,9 @@ use Prim.Native.Nat.{ℕ, zero, suc, _≤_, _<_}
 use native.Mathlib.Omega.{arith}
 use mathlib.Core.Path.{_≡_, refl, sym, ap, _∙_}
 use mathlib.Core.List.{List, [], _∷_, map}
-use lib.Dec.{ltb}
 use lib.ListN.{length, take, drop, length-append, length-drop}
 use lib.Seq.{drop-drop, drop-length, take-append-seam}
-use borrow.Author.Tests.{eq-eqb, ne-eqb, ltb-true}
-use borrow.Table.Steps.{cases}
+use borrow.Author.Tests.{eq-eqb, ne-eqb}
 use Rattle.machine.specs.Machine.{Need, acts, runs, Machine}
 use Rattle.machine.specs.Outcome.{Outcome, halt, join}
 use Rattle.machine.specs.Call.{Call, offered, standing, call, calls}
@@ -24,7 +22,7 @@ use Rattle.machine.specs.declared.Record.{Record}
 use Rattle.machine.proofs.Outcomes.{halt-join}
 use Rattle.machine.proofs.Actions.{call-run, call-short, call-full}
 use Rattle.machine.proofs.Paths.{path-keeps, call-came, calls-came, at-start}
-use Rattle.machine.proofs.Stops.{call-blocked}
+use Rattle.machine.proofs.Stops.{stands-running, stands-waiting, call-blocked}
 use Rattle.machine.proofs.Cuts.{came-holds}
 
 -- what a program's calls gave back is what the definition gives
@@ -108,40 +106,22 @@ module _ {M S : Type 0} (σ : Session M S) {fresh : M → S} {Sound : S → Type
       waits-stopped full e = rw (full, drop-length stream) (Stopped.waits (sym (quiet-standing (o .final) (came-sound o c)) ∙ e))
 
       runs-stopped : answerOf σ (σ .write (o .final)) (σ .memories (o .final)) [] [] .report .standing ≡ 3 → Stopped m (o .final) (drop (o .taken) stream)
-      runs-stopped e = go (m .need (o .final)) refl
-        where
-          here : standing m (o .final) [] ≡ 3
-          here = sym (quiet-standing (o .final) (came-sound o c)) ∙ e
-
-          go : (n : Need) → m .need (o .final) ≡ n → Stopped m (o .final) (drop (o .taken) stream)
-          go runs f = Stopped.running (rw f refl)
-          go (acts views takes) f = absurd (cases (ltb 0 views) (λ t. not-3 1 (rw (f, t) at here) (omega arith)) (λ t. not-3 2 (rw (f, t) at here) (omega arith)))
-            where
-              not-3 : (n : ℕ) → n ≡ 3 → n < 3 → ⊥
-              not-3 n q h = omega arith
+      runs-stopped e =
+          let here : standing m (o .final) [] ≡ 3 = sym (quiet-standing (o .final) (came-sound o c)) ∙ e in
+          Stopped.running (rw (stands-running (m .need (o .final)) 0 here) refl)
 
       -- a call that doesn't wait for room took all it was shown, unless code runs
       took-all : (input reply : List ℕ) → let p = call m (o .final) input (length reply) in
           Stopped m (p .final) (drop (p .taken) input) → TookAll input (answerOf σ (σ .write (o .final)) (σ .memories (o .final)) input reply)
       unfolding accepted
       took-all input reply (Stopped.running e) = rw (answer-is (o .final) (came-sound o c) input reply) (claim.running e)
-      took-all input reply (Stopped.waits e) = rw (answer-is (o .final) (came-sound o c) input reply) (claim.waits (go (m .need (p .final)) refl) e)
-        where
-          p : Outcome S
-          p = call m (o .final) input (length reply)
-
-          within : p .taken ≤ length input
-          within = call-blocked m (law .lawful) (o .final) input (length reply) .within
-
-          not-1 : (n : ℕ) → n ≡ 1 → 1 < n → ⊥
-          not-1 n q h = omega arith
-
-          go : (n : Need) → m .need (p .final) ≡ n → p .taken ≡ length input
-          go runs f = absurd (not-1 3 (rw f at e) (omega arith))
-          go (acts views takes) f =
-              cases (ltb (length (drop (p .taken) input)) views)
-              (λ t. omega (arith, within, ltb-true (length (drop (p .taken) input)) views t, law .one-by-one (p .final) views takes f, length-drop (p .taken) input))
-              (λ t. absurd (not-1 2 (rw (f, t) at e) (omega arith)))
+      took-all input reply (Stopped.waits e) =
+          let p = call m (o .final) input (length reply) in
+          let within : p .taken ≤ length input = call-blocked m (law .lawful) (o .final) input (length reply) .within in
+          let l = stands-waiting (m .need (p .final)) (length (drop (p .taken) input)) e in
+          let none : length (drop (p .taken) input) < 1 = omega (arith, l .less, law .one-by-one (p .final) (l .views) (l .takes) (l .need-is)) in
+          let all : p .taken ≡ length input = omega (arith, within, none, length-drop (p .taken) input) in
+          rw (answer-is (o .final) (came-sound o c) input reply) (claim.waits all e)
 
       follows : Invariant [] start → Follows σ Told start stream (given σ o)
       follows first =

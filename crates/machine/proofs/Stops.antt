@@ -9,12 +9,12 @@ use mathlib.Core.List.{List, [], _++_}
 use lib.Dec.{leb, ltb}
 use lib.ListN.{length, take, drop, length-drop, length-append}
 use lib.Seq.{length-take-le, drop-drop}
-use borrow.Author.Tests.{leb-true, leb-false, le-leb, lt-ltb, ltb-false}
+use borrow.Author.Tests.{leb-true, leb-false, le-leb, lt-ltb, ltb-true, ltb-false}
 use borrow.Table.Steps.{cases}
 use Rattle.wire.proofs.Tests.{both-true}
 use Rattle.machine.specs.Machine.{Need, acts, runs, Machine}
 use Rattle.machine.specs.Outcome.{Outcome, halt, acted, join}
-use Rattle.machine.specs.Call.{act, call, Blocked}
+use Rattle.machine.specs.Call.{standingOf, act, call, Blocked}
 use Rattle.machine.specs.Uncut.{drainAt, drain, feed, uncut}
 use Rattle.machine.specs.Lawful.{Every, Moves, takes-one, sends-one, stops, Lawful}
 use Rattle.machine.specs.Claim.{Stopped, waits, running}
@@ -28,6 +28,29 @@ not-both views takes e = let z : _≡_ {A = ℕ} 0 1 = cc in omega arith
 abbrev pub viewsOf : Need → ℕ
 viewsOf (acts views takes) = views
 viewsOf runs = 0
+
+-- a standing of 3 says that code runs
+pub stands-running : (n : Need) (left : ℕ) → standingOf n left ≡ 3 → n ≡ runs
+stands-running runs left e = refl
+stands-running (acts views takes) left e = absurd (cases (ltb left views) (λ t. other 1 (rw t at e) (omega arith)) (λ t. other 2 (rw t at e) (omega arith)))
+  where
+    other : (k : ℕ) → k ≡ 3 → k < 3 → ⊥
+    other k q h = omega arith
+
+-- a standing of 1 says that an action lacks symbols
+pub record Lacks (n : Need) (left : ℕ) : Type 0 where
+  pub views : ℕ
+  pub takes : ℕ
+  pub need-is : n ≡ acts views takes
+  pub less : left < views
+
+pub stands-waiting : (n : Need) (left : ℕ) → standingOf n left ≡ 1 → Lacks n left
+stands-waiting runs left e = absurd (let z : ⊥ = omega arith in z)
+stands-waiting (acts views takes) left e =
+    cases (ltb left views) (λ t. record { views = views; takes = takes; need-is = refl; less = ltb-true _ _ t }) (λ t. absurd (other 2 (rw t at e) (omega arith)))
+  where
+    other : (k : ℕ) → k ≡ 1 → 1 < k → ⊥
+    other k q h = omega arith
 
 module _ {A S : Type 0} (m : Machine A S) where
   -- waiting for room: an action has its symbols in view

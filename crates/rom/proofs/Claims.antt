@@ -8,6 +8,7 @@ use mathlib.Core.List.{List, [], _∷_}
 use lib.Dec.{eqb, leb, ltb}
 use lib.ListN.{length}
 use Rattle.wire.specs.Length.{isRamLength}
+use Rattle.wire.proofs.Tests.{in-cond}
 use Rattle.machine.specs.Machine as machine
 use Rattle.machine.specs.Machine.{Need, acts, isRunning}
 use Rattle.machine.specs.History.{Event}
@@ -35,8 +36,7 @@ runs s = isRunning (needOf (askOf s))
 
 -- neither branch runs
 never : (t : Bool) (a b : Progress) → runs (a .step) ≡ false → runs (b .step) ≡ false → runs (cond t a b .step) ≡ false
-never true a b e f = e
-never false a b e f = f
+never t a b e f = in-cond (λ (p : Progress). runs (p .step) ≡ false) t a b (λ _. e) (λ _. f)
 
 zero-never : (kind : Kind) (reason : ℕ) → runs (flow.zeroLength kind reason .step) ≡ false
 zero-never P reason = refl
@@ -46,11 +46,7 @@ judged-never : (size reason n : ℕ) → runs (flow.judged size reason n .step) 
 judged-never size reason n = never (leb n size) _ _ refl refl
 
 code-never : (n count : ℕ) → runs (flow.codeStep n count) ≡ false
-code-never n count = go (ltb count n)
-  where
-    go : (t : Bool) → runs (cond t (TakeCode n count) (SendXor n)) ≡ false
-    go true = refl
-    go false = refl
+code-never n count = in-cond (λ (s : Step). runs s ≡ false) (ltb count n) (TakeCode n count) (SendXor n) (λ _. refl) (λ _. refl)
 
 headed-never : (kind : Kind) (size reason n : ℕ) → runs (flow.headed kind size reason n .step) ≡ false
 headed-never kind size reason n = never (eqb n 0) (flow.zeroLength kind reason) (flow.judged size reason n) (zero-never kind reason) (judged-never size reason n)

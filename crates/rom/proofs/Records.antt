@@ -3,7 +3,7 @@
 use Prim.Native.Nat.{ℕ}
 use native.Mathlib.Omega.{arith}
 use mathlib.Core.Path.{_≡_, refl, ap, subst}
-use mathlib.Core.Bool.{Bool, true, false, cond}
+use mathlib.Core.Bool.{cond}
 use lib.Dec.{eqb, leb, ltb}
 use borrow.Author.Tests.{leb-true, ltb-true, eqb-false, le-leb, lt-ltb, ne-eqb}
 use Rattle.rom_flow.specs.declared.kind.Kind.{Kind}
@@ -16,14 +16,10 @@ use Rattle.rom.specs.declared.record.Found.the-variants.{At}
 use Rattle.rom.specs.declared.record.Found.the-variants as found
 use Rattle.rom.specs.declared.record.Decoded.{Decoded}
 use Rattle.rom.specs.declared.record.Decoded.the-variants as decoded
+use Rattle.wire.proofs.Tests.{in-cond}
 use Rattle.machine.specs.declared.Record.{Record}
 use Rattle.rom.specs.Record.{fields, fieldsOf, written, sized, coded, extended, stepIn, withKind, decodedOf}
 use Rattle.rom_flow.specs.Sound.{SoundStep, Sized, Extends}
-
--- what holds of both branches holds of the test
-in-cond : {A : Type 0} (Q : A → Type 0) (t : Bool) (a b : A) → (t ≡ true → Q a) → (t ≡ false → Q b) → Q (cond t a b)
-in-cond Q true a b f g = f refl
-in-cond Q false a b f g = g refl
 
 abbrev InFound : Kind → ℕ → Found → Type 0
 InFound kind size (At step) = SoundStep kind size step

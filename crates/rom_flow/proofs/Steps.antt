@@ -6,6 +6,7 @@ use mathlib.Core.Path.{_≡_, refl, subst}
 use mathlib.Core.Bool.{Bool, true, false, cond}
 use lib.Dec.{eqb, leb, ltb}
 use borrow.Author.Tests.{leb-true, ltb-true, eqb-false}
+use Rattle.wire.proofs.Tests.{in-cond}
 use Rattle.machine.specs.Machine as machine
 use Rattle.rom_flow.specs.declared.kind.Kind.{Kind}
 use Rattle.rom_flow.specs.declared.kind.Kind.the-variants.{P, E}
@@ -62,8 +63,7 @@ asks-code Running length place e = cc
 -- both branches of a test are sound
 sound-either : (kind : Kind) (size : ℕ) (t : Bool) (a b : Progress) → (t ≡ true → SoundStep kind size (a .step)) →
     (t ≡ false → SoundStep kind size (b .step)) → SoundStep kind size (cond t a b .step)
-sound-either kind size true a b f g = f refl
-sound-either kind size false a b f g = g refl
+sound-either kind size t a b f g = in-cond (λ (p : Progress). SoundStep kind size (p .step)) t a b f g
 
 sound-judged : (kind : Kind) (size reason length : ℕ) → 0 < length → SoundStep kind size (judged size reason length .step)
 sound-judged kind size reason length h = sound-either kind size (leb length size) _ _ (λ e. (h, leb-true _ _ e)) (λ e. tt)
@@ -78,11 +78,8 @@ sound-headed kind size reason length =
     (λ e. sound-judged kind size reason length (omega (arith, eqb-false length 0 e)))
 
 pub sound-code : (kind : Kind) (size length count : ℕ) → 0 < length → length ≤ size → SoundStep kind size (codeStep length count)
-sound-code kind size length count h f = go (ltb count length) refl
-  where
-    go : (t : Bool) → ltb count length ≡ t → SoundStep kind size (cond t (TakeCode length count) (SendXor length))
-    go true e = (ltb-true _ _ e, f)
-    go false e = (h, f)
+sound-code kind size length count h f =
+    in-cond (SoundStep kind size) (ltb count length) (TakeCode length count) (SendXor length) (λ e. (ltb-true _ _ e, f)) (λ e. (h, f))
 
 pub sound-took : (kind : Kind) (size : ℕ) (s : Step) (reason b : ℕ) → SoundStep kind size s → SoundStep kind size (took kind size s reason b .step)
 sound-took kind size SendStx reason b h = h
