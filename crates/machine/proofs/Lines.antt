@@ -1,4 +1,4 @@
--- A line's machine is lawful if its states stay sound and its bound on sends is exact; the rest follows from its needs.
+-- A line's machine is lawful if its states stay sound and its count of due sends falls by one with each; the rest follows from its needs.
 -- Assumes nothing.
 use Prim.Native.Nat.{ℕ, suc, _≤_, _<_}
 use native.Mathlib.Omega.{arith}

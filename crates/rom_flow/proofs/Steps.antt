@@ -1,4 +1,4 @@
--- Laws of the receiver's flow: what it asks lies in the RAM, every action leaves a sound step, and its bound on sends is exact.
+-- Laws of the receiver's flow: what it asks lies in the RAM, every action leaves a sound step, and its count of due sends falls by one with each.
 -- Assumes nothing.
 use Prim.Native.Nat.{ℕ, suc, _+_, _*_, _≤_, _<_}
 use native.Mathlib.Omega.{arith}

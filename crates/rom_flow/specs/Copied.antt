@@ -13,7 +13,7 @@ pub record Copied (total place : ℕ) (input : List ℕ) (i : ℕ) (old new : Li
   pub count-is : count ≡ min (total - place) (length input - i)
   pub ram-is : new ≡ paste old place (drop i input) count
 
--- what a output speaks of lies in a RAM of `size` bytes
+-- what an output speaks of lies in a RAM of `size` bytes
 abbrev pub InRam : Output → (size : ℕ) → Type 0
 InRam (Byte b) size = Unit {0}
 InRam (Xor count) size = count ≤ size
