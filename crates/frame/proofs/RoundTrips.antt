@@ -22,7 +22,8 @@ use Rattle.machine.proofs.Actions.{uncut-act, uncut-run}
 use Rattle.rom_flow.specs.declared.kind.Kind.{Kind}
 use Rattle.rom_flow.specs.declared.kind.Kind.the-variants.{P, E}
 use Rattle.rom_flow.specs.declared.step.Step.the-variants.{SendAck, TakeCode, SendXor, Running}
-use Rattle.rom_flow.specs.Flow.{stx, soh, ack, codeStep}
+use Rattle.wire.specs.Line.{stx, soh, ack}
+use Rattle.rom_flow.specs.Flow.{codeStep}
 use Rattle.rom_flow.specs.Ask.{xorOf}
 use Rattle.rom_flow.specs.Receiver.{State, fresh, need, took, byte, sent, receiver, state}
 use Rattle.rom_flow.proofs.Laws.{lawful-any}

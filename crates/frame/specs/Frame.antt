@@ -8,7 +8,8 @@ use lib.ListN.{length}
 use Rattle.memory.specs.Store.{laid}
 use Rattle.rom_flow.specs.declared.kind.Kind.{Kind}
 use Rattle.rom_flow.specs.declared.kind.Kind.the-variants.{P, E}
-use Rattle.rom_flow.specs.Flow.{soh, ack, firstExtended}
+use Rattle.wire.specs.Line.{soh, ack}
+use Rattle.rom_flow.specs.Flow.{firstExtended}
 use Rattle.frame.specs.declared.Framed.{Framed}
 
 -- the longest code that the length field of a kind can tell

@@ -8,7 +8,7 @@ use Rattle.memory.specs.Store.{laid}
 use Rattle.machine.specs.Uncut.{uncut}
 use Rattle.rom_flow.specs.declared.kind.Kind.{Kind}
 use Rattle.rom_flow.specs.declared.step.Step.the-variants.{Running}
-use Rattle.rom_flow.specs.Flow.{stx, ack}
+use Rattle.wire.specs.Line.{stx, ack}
 use Rattle.rom_flow.specs.Ask.{xorOf}
 use Rattle.rom_flow.specs.Receiver.{fresh, receiver}
 use Rattle.frame.specs.Frame.{framedOf}

@@ -9,3 +9,5 @@ pub mod Lines
 pub mod Refusals
 pub mod Records
 pub mod Shapes
+pub mod Doing
+pub mod Repeats

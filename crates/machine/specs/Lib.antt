@@ -1,4 +1,6 @@
 pub mod Machine
+pub mod Does
+pub mod Steps
 pub mod Outcome
 pub mod Call
 pub mod Uncut

@@ -1,1 +1,4 @@
 pub mod Stores
+pub mod Copies
+pub mod Flashes
+pub mod Compares

@@ -1,1 +1,4 @@
 pub mod Store
+pub mod Copy
+pub mod Flash
+pub mod Compare

@@ -8,6 +8,7 @@ use mathlib.Core.List.{List, [], _∷_}
 use lib.Dec.{eqb, leb, ltb}
 use lib.ListN.{length}
 use Rattle.wire.specs.Length.{isRamLength}
+use Rattle.wire.specs.Line.{soh, ack}
 use Rattle.wire.proofs.Tests.{in-cond}
 use Rattle.machine.specs.Machine as machine
 use Rattle.machine.specs.Machine.{Need, acts, isRunning}
@@ -53,9 +54,9 @@ headed-never kind size reason n = never (eqb n 0) (flow.zeroLength kind reason) 
 
 -- a taken byte starts the code exactly if it is the acknowledgement
 took-runs : (kind : Kind) (size : ℕ) (s : Step) (reason b : ℕ) → needOf (askOf s) ≡ machine.take →
-    runs (flow.took kind size s reason b .step) ≡ (awaitsAck s && eqb b flow.ack)
+    runs (flow.took kind size s reason b .step) ≡ (awaitsAck s && eqb b ack)
 took-runs kind size SendStx reason b e = refl
-took-runs kind size TakeSoh reason b e = never (eqb b flow.soh) _ _ refl refl
+took-runs kind size TakeSoh reason b e = never (eqb b soh) _ _ refl refl
 took-runs kind size TakeLow reason b e = refl
 took-runs kind size (TakeHigh low) reason b e = headed-never kind size reason (low + 256 * b)
 took-runs kind size TakeExtendedLow reason b e = refl
@@ -63,7 +64,7 @@ took-runs kind size (TakeExtendedHigh low) reason b e = judged-never size reason
 took-runs kind size (SendAck n) reason b e = refl
 took-runs kind size (TakeCode n p) reason b e = code-never n (p + 1)
 took-runs kind size (SendXor n) reason b e = refl
-took-runs kind size (TakeAck n) reason b e = go (eqb b flow.ack)
+took-runs kind size (TakeAck n) reason b e = go (eqb b ack)
   where
     go : (t : Bool) → runs (cond t (flow.to Running reason) (flow.to SendStx flow.notAcked) .step) ≡ t
     go true = refl
@@ -101,7 +102,7 @@ unfolding took
 runs-taken events s b e w h =
     let none : acknowledged events ≡ false = sym h ∙ acts-waits (need s) (λ q. let z : _≡_ {A = ℕ} 0 1 = cc in omega arith) in
     took-runs (s .kind) (length (s .ram)) (s .step) (s .reason) b e
-    ∙ sym (or-false (awaitsAck (s .step) && eqb b flow.ack) (acknowledged events) none)
+    ∙ sym (or-false (awaitsAck (s .step) && eqb b ack) (acknowledged events) none)
 
 runs-sent : (events : List (Event ℕ State)) (s : State) → needOf (askOf (s .step)) ≡ machine.send → RunsExactly events s →
     RunsExactly (record { state = s; view = [] } ∷ events) (sent s)

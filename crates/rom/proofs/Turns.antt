@@ -9,6 +9,7 @@ use mathlib.Core.List.{List}
 use lib.ListN.{length, drop, getD, set, length-drop}
 use lib.Seq.{getD-drop, paste, paste-zero, paste-suc}
 use borrow.Author.Tests.{lt-ltb}
+use Rattle.memory.specs.Copy.{Copied}
 use Rattle.machine.specs.Machine as machine
 use Rattle.machine.specs.Loop.{Acted}
 use Rattle.machine.proofs.Loops.{Reached, reached-start, reached-take, reached-send, acted-hungry, acted-choked, acted-runs}
@@ -23,7 +24,6 @@ use Rattle.rom_flow.specs.Flow as flow
 use Rattle.rom_flow.specs.Ask.{askOf, needOf, outputOf}
 use Rattle.rom_flow.specs.Receiver.{took, sent, receiver, state}
 use Rattle.rom_flow.specs.Sound.{Ready}
-use Rattle.rom_flow.specs.Copied.{Copied}
 use Rattle.rom_flow.proofs.Steps.{ask-inside, asks-code, InAsk}
 use Rattle.rom_flow.proofs.Laws.{lawful-any, took-sound, sent-sound, stored-length}
 
@@ -98,10 +98,10 @@ module _ {kind : Kind} {first : Step} {reason₀ : ℕ} {ram₀ input old : List
 
   module _ {s : Step} {last : ℕ} {ram reply : List ℕ} {i j : ℕ} (t : Turn kind first reason₀ ram₀ input old s last ram reply i j) (a : Ask) (e : a ≡ askOf s) where
     -- a turn that took code bytes
-    pub code-turn : (n p : ℕ) → a ≡ TakeCode n p → i < length input → (q : ℕ) (ram′ : List ℕ) → Copied n p input i ram ram′ q →
+    pub code-turn : (n p : ℕ) → a ≡ TakeCode n p → i < length input → (q : ℕ) (ram′ : List ℕ) → Copied input i ram p n ram′ q →
         (next : Step) → next ≡ flow.codeStep n (p + q) → Turn kind first reason₀ ram₀ input old next last ram′ reply (i + q) j
     code-turn n p f h q ram′ c next g =
         let is : s ≡ step.TakeCode n p = asks-code s n p (sym e ∙ f) in
         let u : (p < n) × (n ≤ length ram) = inside t a e (TakeCode n p) f in
         let x : q ≡ min (n - p) (length input - i) = c .count-is in
-        rw (c .ram-is, g) (code-run n p last ram reply i j (u .0) (u .1) (rw is at t) q (omega arith) (omega arith))
+        rw (c .memory-is, g) (code-run n p last ram reply i j (u .0) (u .1) (rw is at t) q (omega arith) (omega arith))

@@ -12,7 +12,7 @@ use Rattle.machine.specs.SessionClaim.{Claim, MadeClaim}
 use Rattle.rom_flow.specs.declared.kind.Kind.{Kind}
 use Rattle.rom_flow.specs.declared.step.Step.{Step}
 use Rattle.rom_flow.specs.declared.step.Step.the-variants.{SendStx, TakeSoh, TakeLow, TakeHigh, TakeExtendedLow, TakeExtendedHigh, SendAck, TakeCode, SendXor, TakeAck, SendNak, Running}
-use Rattle.rom_flow.specs.Flow.{ack}
+use Rattle.wire.specs.Line.{ack}
 use Rattle.rom_flow.specs.Receiver.{State, fresh, need}
 use Rattle.rom.specs.Session.{rom}
 

@@ -1,3 +1,3 @@
 pub mod Steps
-pub mod Copies
+pub mod Xors
 pub mod Laws

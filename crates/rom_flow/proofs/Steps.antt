@@ -17,7 +17,7 @@ use Rattle.rom_flow.specs.declared.step.Ask.the-variants as ask
 use Rattle.rom_flow.specs.declared.step.Progress.{Progress}
 use Rattle.rom_flow.specs.Flow.{judged, zeroLength, headed, codeStep, took, sent, due}
 use Rattle.rom_flow.specs.Ask.{askOf, needOf}
-use Rattle.rom_flow.specs.Copied.{InRam}
+use Rattle.rom_flow.specs.InRam.{InRam}
 use Rattle.rom_flow.specs.Sound.{SoundStep}
 
 -- what an ask speaks of lies in a RAM of `size` bytes

@@ -4,6 +4,7 @@ use Prim.Native.Nat.{ℕ}
 use mathlib.Core.List.{List, [], _∷_}
 use lib.Bits.{bitXor}
 use lib.ListN.{take, set}
+use Rattle.wire.specs.Line.{stx, ack, nak}
 use Rattle.machine.specs.Machine.{Need, runs}
 use Rattle.machine.specs.Machine as machine
 use Rattle.rom_flow.specs.declared.step.Step.{Step}
@@ -13,7 +14,6 @@ use Rattle.rom_flow.specs.declared.step.Output.{Output}
 use Rattle.rom_flow.specs.declared.step.Output.the-variants.{Byte, Xor}
 use Rattle.rom_flow.specs.declared.step.Ask.{Ask}
 use Rattle.rom_flow.specs.declared.step.Ask.the-variants.{TakeByte, TakeCode, Send, Halt}
-use Rattle.rom_flow.specs.Flow.{stx, ack, nak}
 
 abbrev pub askOf : Step → Ask
 askOf SendStx = Send (Byte stx)

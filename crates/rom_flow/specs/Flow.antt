@@ -3,24 +3,12 @@
 use Prim.Native.Nat.{ℕ, _+_, _*_}
 use mathlib.Core.Bool.{cond}
 use lib.Dec.{eqb, leb, ltb}
+use Rattle.wire.specs.Line.{soh, ack}
 use Rattle.rom_flow.specs.declared.kind.Kind.{Kind}
 use Rattle.rom_flow.specs.declared.kind.Kind.the-variants.{P, E}
 use Rattle.rom_flow.specs.declared.step.Step.{Step}
 use Rattle.rom_flow.specs.declared.step.Step.the-variants.{SendStx, TakeSoh, TakeLow, TakeHigh, TakeExtendedLow, TakeExtendedHigh, SendAck, TakeCode, SendXor, TakeAck, SendNak, Running}
 use Rattle.rom_flow.specs.declared.step.Progress.{Progress}
-
--- the bytes of the line: 02, 01, 06, 15
-abbrev pub stx : ℕ
-stx = 0x02
-
-abbrev pub soh : ℕ
-soh = 0x01
-
-abbrev pub ack : ℕ
-ack = 0x06
-
-abbrev pub nak : ℕ
-nak = 0x15
 
 -- the first length of kind E that is extended
 abbrev pub firstExtended : ℕ

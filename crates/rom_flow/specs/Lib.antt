@@ -1,5 +1,5 @@
 pub mod Flow
 pub mod Ask
-pub mod Copied
+pub mod InRam
 pub mod Receiver
 pub mod Sound

@@ -10,18 +10,10 @@ use crate::step::Ask;
 use crate::step::Output;
 use crate::step::Progress;
 use crate::step::Step;
-
-// Sent at the start of the flow.
-pub const STX: u8 = 0x02;
-
-// Starts a header.
-pub const SOH: u8 = 0x01;
-
-// Accepts.
-pub const ACK: u8 = 0x06;
-
-// Refuses.
-pub const NAK: u8 = 0x15;
+use wire::line::ACK;
+use wire::line::NAK;
+use wire::line::SOH;
+use wire::line::STX;
 
 // The first length of kind E that is extended: 00 00, and two bytes of what the length is more than this.
 pub const FIRST_EXTENDED: usize = 65_536;

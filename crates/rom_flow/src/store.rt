@@ -1,27 +1,19 @@
 // The receiver's RAM: code bytes stored as they arrive, and their XOR.
 ghost use mathlib.Core.Path.{_≡_};
-ghost use Prim.Native.Nat.{_≤_, _<_, min};
+ghost use Prim.Native.Nat.{_≤_, _<_};
 ghost use lib.ListN.{length, take};
 ghost use Rattle.rom_flow.specs.Ask.{xorOf, outputOf};
-ghost use Rattle.rom_flow.specs.Copied.{Copied, InRam};
+ghost use Rattle.memory.specs.Copy.{Copied};
+ghost use Rattle.rom_flow.specs.InRam.{InRam};
 use crate::step::Output;
-
-fn least(a: usize, b: usize) -> usize
-    ensures { λ r. ⌜ r ≡ min a b ⌝ }
-{
-    if a <= b { a } else { b }
-}
+use memory::copy::copy_up_to;
 
 // Stores as many code bytes as are wanted and there, from input byte i on, straight into the RAM from their place on.
 pub fn take_code(total: u32, place: u32, input: &[u8], i: usize, ram: &mut [u8]) -> u32
     requires { ⌜ (place < total) × (total ≤ length (now ram)) × (i ≤ length (now input)) ⌝ }
-    ensures { λ r. ⌜ Copied total place (now (input .entry)) i (now (ram .entry)) (now (ram .exit)) r ⌝ }
+    ensures { λ r. ⌜ Copied (now (input .entry)) i (now (ram .entry)) place total (now (ram .exit)) r ⌝ }
 {
-    let start = place as usize;
-    let count = least((total - place) as usize, input.len() - i);
-    let end = i + count;
-    memory::store::lay(&mut ram[start..], &input[i..end]);
-    count as u32
+    copy_up_to(input, i, ram, place as usize, total as usize) as u32
 }
 
 // The XOR of the first bytes of the RAM.

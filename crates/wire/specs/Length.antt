@@ -4,12 +4,16 @@ use Prim.Native.Nat.{ℕ, _%_}
 use mathlib.Core.Bool.{Bool, _&&_}
 use lib.Dec.{eqb, leb}
 
+-- from `least` to `most`
+unfoldable pub isBetween : (least most length : ℕ) → Bool
+isBetween least most length = leb least length && leb length most
+
 abbrev pub largestRam : ℕ
 largestRam = 131072
 
 -- 1 to 131,072 bytes
-unfoldable pub isRamLength : ℕ → Bool
-isRamLength length = leb 1 length && leb length largestRam
+abbrev pub isRamLength : ℕ → Bool
+isRamLength length = isBetween 1 largestRam length
 
 -- the number given for RAM of any other length
 abbrev pub badRam : ℕ
@@ -29,3 +33,17 @@ isFlashLength length = leb 1 length && (eqb (length % sectorLength) 0 && leb len
 -- the number given for flash of any other length
 abbrev pub badFlash : ℕ
 badFlash = 3
+
+abbrev pub smallestWork : ℕ
+smallestWork = 64
+
+abbrev pub largestWork : ℕ
+largestWork = 65535
+
+-- 64 to 65,535 bytes
+abbrev pub isWorkLength : ℕ → Bool
+isWorkLength length = isBetween smallestWork largestWork length
+
+-- the number given for a work buffer of any other length
+abbrev pub badWork : ℕ
+badWork = 1

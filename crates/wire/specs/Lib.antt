@@ -1,4 +1,5 @@
 pub mod Length
+pub mod Line
 pub mod Number
 pub mod Part
 pub mod Range

@@ -1,6 +1,8 @@
 // The lengths that the memories may have.
 ghost use mathlib.Core.Path.{_≡_};
-ghost use Rattle.wire.specs.Length.{isRamLength, isFlashLength};
+ghost use Rattle.wire.specs.Length.{isBetween, isRamLength, isFlashLength, isWorkLength};
+
+const SMALLEST_RAM: usize = 1;
 
 const LARGEST_RAM: usize = 131_072;
 
@@ -15,14 +17,27 @@ const LARGEST_FLASH: usize = 4_194_304;
 // The number given for flash of a length that it may not have.
 pub const BAD_FLASH: u32 = 3;
 
+const SMALLEST_WORK: usize = 64;
+
+const LARGEST_WORK: usize = 65_535;
+
+// The number given for a work buffer of a length that it may not have.
+pub const BAD_WORK: u32 = 1;
+
+fn is_between(length: usize, least: usize, most: usize) -> bool
+    ensures { λ r. ⌜ r ≡ isBetween least most length ⌝ }
+{
+    if length < least {
+        return false;
+    }
+    length <= most
+}
+
 // Whether RAM may have this length.
 pub fn is_ram_length(length: usize) -> bool
     ensures { λ r. ⌜ r ≡ isRamLength length ⌝ }
 {
-    if length < 1 {
-        return false;
-    }
-    length <= LARGEST_RAM
+    is_between(length, SMALLEST_RAM, LARGEST_RAM)
 }
 
 // Whether flash may have this length.
@@ -36,4 +51,11 @@ pub fn is_flash_length(length: usize) -> bool
         return false;
     }
     length <= LARGEST_FLASH
+}
+
+// Whether a work buffer may have this length.
+pub fn is_work_length(length: usize) -> bool
+    ensures { λ r. ⌜ r ≡ isWorkLength length ⌝ }
+{
+    is_between(length, SMALLEST_WORK, LARGEST_WORK)
 }

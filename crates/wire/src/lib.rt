@@ -1,6 +1,7 @@
 // Numbers and ranges as they come over the wire: little-endian numbers, ranges judged without a sum that could wrap, the two units
-// that a place on the device has, and the lengths that memories may have.
+// that a place on the device has, the lengths that memories may have, and the line's bytes.
 pub mod length;
+pub mod line;
 pub mod number;
 pub mod range;
 pub mod unit;

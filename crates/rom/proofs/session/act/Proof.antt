@@ -5,7 +5,7 @@ use mathlib.Core.Path.{sym, _∙_}
 use native.Mathlib.Omega.{arith}
 use lib.ListN.{length, length-set}
 use borrow.Author.Needs.{needs}
-use Rattle.wire.proofs.Lengths.{ram-bound}
+use Rattle.wire.proofs.Lengths.{ram-bounds}
 use Rattle.rom.proofs.Turns.{Turn, begins, inside, took-turn, code-turn, sent-turn, hungry, hungry-code, choked, halts}
 use Rattle.rom.proofs.session.act.Statement.{statement}
 use Rattle.rom.proofs.session.act.Tie as tie
@@ -22,7 +22,7 @@ wanted : (c : tie.After-known-told Inv-loop μ-loop) →
 wanted c = inside (c .before .before .before .before .loop .inv) _ (c .before .before .before .ask-of .ensures) _ (c .before .total .given .1)
 
 cast-size : tie.Need-cast-size Inv-loop μ-loop
-cast-size c = omega (arith, ram-bound _ (c .before .before .before .pre .fits))
+cast-size c = omega (arith, ram-bounds _ (c .before .before .before .pre .fits) .1)
 
 loop-holds : tie.Need-loop-holds Inv-loop μ-loop
 loop-holds c = begins (c .before .before .before .pre)

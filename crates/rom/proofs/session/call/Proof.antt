@@ -3,7 +3,7 @@
 use mathlib.Core.Path.{refl, sym, _∙_}
 use native.Mathlib.Omega.{arith}
 use borrow.Author.Tests.{not-true, not-false}
-use Rattle.wire.proofs.Lengths.{ram-bound}
+use Rattle.wire.proofs.Lengths.{ram-bounds}
 use Rattle.rom.proofs.Records.{decoded-sound}
 use Rattle.rom.proofs.Calls.{bad-length, bad-record, good}
 use borrow.Author.Needs.{needs}
@@ -21,7 +21,7 @@ returns c =
     bad-length _ _ _ _ _ (sym (c .before .before .is-ram-length .ensures) ∙ not-true _ (c .before .if1 .taken)) (c .refused .ensures)
 
 cast-decode : tie.Need-cast-decode
-cast-decode c = omega (arith, ram-bound _ (sym (c .before .is-ram-length .ensures) ∙ not-false _ (c .if1 .left)))
+cast-decode c = omega (arith, ram-bounds _ (sym (c .before .is-ram-length .ensures) ∙ not-false _ (c .if1 .left)) .1)
 
 decode-requires : tie.Need-decode-requires
 decode-requires c κs = search needs

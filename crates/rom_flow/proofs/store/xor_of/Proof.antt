@@ -5,7 +5,7 @@ use mathlib.Core.Path.{_≡_, refl, _∙_}
 use native.Mathlib.Omega.{arith}
 use lib.ListN.{length, take, drop, length-take, drop-of-length-le}
 use Rattle.rom_flow.specs.Ask.{xorFrom, xorOf}
-use Rattle.rom_flow.proofs.Copies.{xor-more}
+use Rattle.rom_flow.proofs.Xors.{xor-more}
 use Rattle.rom_flow.proofs.store.xor_of.Statement.{statement}
 use Rattle.rom_flow.proofs.store.xor_of.Tie as tie
 

@@ -1,0 +1,25 @@
+-- The data of a command end in its payload.
+-- Assumes nothing.
+use Prim.Native.Nat.{ℕ, _≤_}
+use mathlib.Core.Path.{_≡_}
+use mathlib.Core.Bool.{true}
+use mathlib.Core.List.{List}
+use native.Mathlib.Omega.{arith}
+use Rattle.command.specs.declared.opcode.Opcode.{Opcode}
+use Rattle.command.specs.declared.opcode.Opcode.the-variants.{Write, Read, Copy, Erase, Run, ReadQspi, Version, ChipErase, DirectWrite}
+use Rattle.command.specs.Opcode.{hasLength}
+use Rattle.command.specs.Payload.{commandOf}
+use Rattle.command.specs.Execution.{dataEnd}
+use Rattle.command.proofs.Opcodes.{never-shorter}
+
+pub data-end-in : (opcode : Opcode) (count : ℕ) (work : List ℕ) → hasLength opcode count ≡ true
+    → dataEnd (commandOf opcode count work) ≤ count
+data-end-in Write count work e = omega (arith, never-shorter Write count e)
+data-end-in Read count work e = omega arith
+data-end-in Copy count work e = omega arith
+data-end-in Erase count work e = omega arith
+data-end-in Run count work e = omega arith
+data-end-in ReadQspi count work e = omega arith
+data-end-in Version count work e = omega arith
+data-end-in ChipErase count work e = omega arith
+data-end-in DirectWrite count work e = omega (arith, never-shorter DirectWrite count e)

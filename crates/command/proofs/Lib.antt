@@ -1,0 +1,5 @@
+pub mod DataEnds
+pub mod Demands
+pub mod Opcodes
+pub mod Ready
+pub mod Executions

@@ -1,0 +1,58 @@
+-- The checks of a command (01, "Numbers given back": reasons 14, 15, 16 and 17, in that order).
+-- Assumes nothing.
+use Prim.Native.Nat.{ℕ}
+use mathlib.Core.Bool.{cond, not}
+use lib.Dec.{eqb, ltb}
+use Rattle.wire.specs.Range.{liesIn}
+use Rattle.wire.specs.Unit.{ramBase}
+use Rattle.wire.specs.declared.unit.RamAddress.{RamAddress}
+use Rattle.wire.specs.declared.unit.FlashOffset.{FlashOffset}
+use Rattle.command.specs.declared.payload.Command.{Command}
+use Rattle.command.specs.declared.payload.Command.the-variants.{Write, Read, Copy, Erase, Run, ReadQspi, Version, ChipErase, DirectWrite}
+use Rattle.command.specs.declared.demand.Demands.{Demands}
+
+-- verify is neither 0 nor 1; a count or size is 0; a range is not wholly in its memory; the answer is longer than the work buffer
+abbrev pub badVerify : ℕ
+badVerify = 14
+
+abbrev pub emptyRange : ℕ
+emptyRange = 15
+
+abbrev pub outsideMemory : ℕ
+outsideMemory = 16
+
+abbrev pub longAnswer : ℕ
+longAnswer = 17
+
+abbrev pub demands : (verify count : ℕ) (address : RamAddress) (ram : ℕ) (offset : FlashOffset) (flash answer : ℕ) → Demands
+demands verify count address ram offset flash answer =
+    record { verify = verify; count = count; address = address; ram = ram; offset = offset; flash = flash; answer = answer }
+
+-- for a command without a range in RAM, or in flash
+abbrev pub firstAddress : RamAddress
+firstAddress = record { 0 = ramBase }
+
+abbrev pub firstOffset : FlashOffset
+firstOffset = record { 0 = 0 }
+
+-- what is tested of a command: its verify byte, its count, its range in RAM, its range in flash, and how long its answer is
+abbrev pub demandsOf : Command → Demands
+demandsOf (Write address n) = demands 0 n address n firstOffset 0 0
+demandsOf (Read address n) = demands 0 n address n firstOffset 0 n
+demandsOf (Copy address n offset) = demands 0 n address n offset n 0
+demandsOf (Erase offset n) = demands 0 n firstAddress 0 offset n 0
+demandsOf (Run address) = demands 0 1 address 1 firstOffset 0 0
+demandsOf (ReadQspi offset n) = demands 0 n firstAddress 0 offset n n
+demandsOf Version = demands 0 1 firstAddress 0 firstOffset 0 7
+demandsOf ChipErase = demands 0 1 firstAddress 0 firstOffset 0 0
+demandsOf (DirectWrite verify offset n) = demands verify n firstAddress 0 offset n 0
+
+-- the reason of the first test that fails, in memories of these lengths; 0 where none does
+unfoldable pub judged : (ram flash work : ℕ) → Demands → ℕ
+judged ram flash work d =
+    cond (ltb 1 (d .verify)) badVerify
+    (cond (eqb (d .count) 0) emptyRange
+    (cond (not (liesIn (d .address .0) (d .ram) ramBase ram)) outsideMemory
+    (cond (not (liesIn (d .offset .0) (d .flash) 0 flash)) outsideMemory
+    (cond (ltb work (d .answer)) longAnswer
+    0))))

@@ -1,0 +1,5 @@
+pub mod Opcode
+pub mod Payload
+pub mod Demand
+pub mod Memories
+pub mod Execution

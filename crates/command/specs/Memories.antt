@@ -1,0 +1,21 @@
+-- The memories of a uartboot session (01, "Memories and the record").
+-- Assumes nothing.
+use Prim.Native.Nat.{ℕ}
+use mathlib.Core.Path.{_≡_}
+use mathlib.Core.Bool.{true}
+use mathlib.Core.List.{List}
+use Rattle.wire.specs.Length.{isRamLength, isFlashLength, isWorkLength}
+
+pub record Memories : Type 0 where
+  pub ram : List ℕ
+  pub flash : List ℕ
+  pub work : List ℕ
+
+abbrev pub memories : (ram flash work : List ℕ) → Memories
+memories ram flash work = record { ram = ram; flash = flash; work = work }
+
+-- lengths that no call refuses
+pub record Fitting (ram flash work : ℕ) : Type 0 where
+  pub ram-length : isRamLength ram ≡ true
+  pub flash-length : isFlashLength flash ≡ true
+  pub work-length : isWorkLength work ≡ true

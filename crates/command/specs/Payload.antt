@@ -1,0 +1,45 @@
+-- What a payload says (01, "uartboot session": the table's second column; numbers little-endian).
+-- Assumes nothing.
+use Prim.Native.Nat.{ℕ, _-_, _≤_}
+use mathlib.Core.Path.{_≡_}
+use mathlib.Core.Bool.{true}
+use mathlib.Core.List.{List}
+use lib.ListN.{getD}
+use Rattle.wire.specs.Number.{numberAt}
+use Rattle.wire.specs.declared.unit.RamAddress.{RamAddress}
+use Rattle.wire.specs.declared.unit.FlashOffset.{FlashOffset}
+use Rattle.command.specs.declared.opcode.Opcode.{Opcode}
+use Rattle.command.specs.declared.opcode.Opcode.the-variants.{Write, Read, Copy, Erase, Run, ReadQspi, Version, ChipErase, DirectWrite}
+use Rattle.command.specs.declared.payload.Command.{Command}
+use Rattle.command.specs.declared.payload.Command.the-variants as command
+use Rattle.command.specs.Opcode.{hasLength}
+
+abbrev pub addressAt : (place : ℕ) (work : List ℕ) → RamAddress
+addressAt place work = record { 0 = numberAt 4 work place }
+
+abbrev pub offsetAt : (place : ℕ) (work : List ℕ) → FlashOffset
+offsetAt place work = record { 0 = numberAt 4 work place }
+
+-- where the data of Write and of Direct write begin
+abbrev pub writeData : ℕ
+writeData = 4
+
+abbrev pub directWriteData : ℕ
+directWriteData = 5
+
+-- a payload of `count` bytes stands at the front of the work buffer
+abbrev pub commandOf : Opcode → (count : ℕ) (work : List ℕ) → Command
+commandOf Write count work = command.Write (addressAt 0 work) (count - writeData)
+commandOf Read count work = command.Read (addressAt 0 work) (numberAt 2 work 4)
+commandOf Copy count work = command.Copy (addressAt 0 work) (numberAt 2 work 4) (offsetAt 6 work)
+commandOf Erase count work = command.Erase (offsetAt 0 work) (numberAt 4 work 4)
+commandOf Run count work = command.Run (addressAt 0 work)
+commandOf ReadQspi count work = command.ReadQspi (offsetAt 0 work) (numberAt 2 work 4)
+commandOf Version count work = command.Version
+commandOf ChipErase count work = command.ChipErase
+commandOf DirectWrite count work = command.DirectWrite (getD work 0 0) (offsetAt 1 work) (count - directWriteData)
+
+-- a payload length that the opcode has, in a work buffer of `size` bytes
+pub record Carried (opcode : Opcode) (count size : ℕ) : Type 0 where
+  pub has-length : hasLength opcode count ≡ true
+  pub in-work : count ≤ size

@@ -1,0 +1,90 @@
+// The nine opcodes, the payload lengths that each has, and which of them have an answer.
+ghost use mathlib.Core.Path.{_≡_};
+ghost use Rattle.command.specs.Opcode.{opcodeNumber, opcodeOf, hasLength, hasAnswer};
+
+pub enum Opcode {
+    Write,
+    Read,
+    Copy,
+    Erase,
+    Run,
+    ReadQspi,
+    Version,
+    ChipErase,
+    DirectWrite,
+}
+
+// What a number says: an opcode, or none.
+pub enum Lookup {
+    Known(Opcode),
+    Unknown,
+}
+
+// The opcode that a number stands for.
+pub fn opcode_of(number: u32) -> Lookup
+    ensures { λ r. ⌜ r ≡ opcodeOf number ⌝ }
+{
+    match number {
+        0x01 => Lookup::Known(Opcode::Write),
+        0x02 => Lookup::Known(Opcode::Read),
+        0x03 => Lookup::Known(Opcode::Copy),
+        0x04 => Lookup::Known(Opcode::Erase),
+        0x05 => Lookup::Known(Opcode::Run),
+        0x08 => Lookup::Known(Opcode::ReadQspi),
+        0x0B => Lookup::Known(Opcode::Version),
+        0x0C => Lookup::Known(Opcode::ChipErase),
+        0x12 => Lookup::Known(Opcode::DirectWrite),
+        _ => Lookup::Unknown,
+    }
+}
+
+// An opcode's number.
+pub fn number_of(opcode: Opcode) -> u32
+    ensures { λ r. ⌜ r ≡ opcodeNumber opcode ⌝ }
+{
+    match opcode {
+        Opcode::Write => 0x01,
+        Opcode::Read => 0x02,
+        Opcode::Copy => 0x03,
+        Opcode::Erase => 0x04,
+        Opcode::Run => 0x05,
+        Opcode::ReadQspi => 0x08,
+        Opcode::Version => 0x0B,
+        Opcode::ChipErase => 0x0C,
+        Opcode::DirectWrite => 0x12,
+    }
+}
+
+// Whether an opcode has payloads of this length.
+pub fn has_length(opcode: Opcode, length: usize) -> bool
+    ensures { λ r. ⌜ r ≡ hasLength opcode length ⌝ }
+{
+    match opcode {
+        Opcode::Write => 5 <= length,
+        Opcode::Read => length == 6,
+        Opcode::Copy => length == 10,
+        Opcode::Erase => length == 8,
+        Opcode::Run => length == 4,
+        Opcode::ReadQspi => length == 6,
+        Opcode::Version => length == 0,
+        Opcode::ChipErase => length == 0,
+        Opcode::DirectWrite => 6 <= length,
+    }
+}
+
+// Whether an opcode has an answer.
+pub fn has_answer(opcode: Opcode) -> bool
+    ensures { λ r. ⌜ r ≡ hasAnswer opcode ⌝ }
+{
+    match opcode {
+        Opcode::Write => false,
+        Opcode::Read => true,
+        Opcode::Copy => false,
+        Opcode::Erase => false,
+        Opcode::Run => false,
+        Opcode::ReadQspi => true,
+        Opcode::Version => true,
+        Opcode::ChipErase => false,
+        Opcode::DirectWrite => false,
+    }
+}

@@ -1,0 +1,46 @@
+-- Several takes, or sends, in a row, in a call that a program's loop makes; and what they keep.
+-- Assumes nothing.
+use Prim.Native.Nat.{ℕ, _+_}
+use native.Mathlib.Nat.{add-zero, add-suc}
+use native.Mathlib.Numerals.{add-one}
+use mathlib.Core.Path.{_≡_, refl, ap, _∙_}
+use mathlib.Core.List.{List, [], _∷_}
+use lib.ListN.{length, getD, length-set}
+use Rattle.machine.specs.Machine.{Need, Machine, line}
+use Rattle.machine.specs.Lawful.{Kept, Lawful}
+use Rattle.machine.specs.Steps.{Takes, Sends}
+use Rattle.machine.specs.Steps as steps
+use Rattle.machine.proofs.Loops.{Reached, reached-take, reached-send}
+
+module _ {S : Type 0} (need : S → Need) (took : S → ℕ → S) (byte : S → ℕ) (sent : S → S) (due : S → ℕ) where
+  abbrev m : Machine ℕ S
+  m = line need took byte sent due
+
+  module _ {Good : ℕ → Type 0} {Sound : S → Type 0} (law : Lawful m Good Sound) {s₀ : S} {input : List ℕ} {old : List ℕ} where
+    pub reached-takes : {s t : S} {i j count : ℕ} {reply : List ℕ} → Reached m s₀ input old s i j reply → Takes m input i s count t →
+        Reached m s₀ input old t (i + count) j reply
+    reached-takes r steps.none = rw add-zero r
+    reached-takes {i = i} r (steps.more {count} {t} before e h) =
+        rw (add-suc i count, ← add-one (i + count)) (reached-take need took byte sent due law (reached-takes r before) 0 e h)
+
+    pub reached-sends : {s t : S} {i j count : ℕ} {reply after : List ℕ} → Reached m s₀ input old s i j reply → Sends m s j reply count t after →
+        Reached m s₀ input old t i (j + count) after
+    reached-sends r steps.none = rw add-zero r
+    reached-sends {j = j} r (steps.more {count} {byte = b} {t} before e says h) =
+        let is : byte t ≡ b = ap (λ (l : List ℕ). getD l 0 0) says in
+        rw (add-suc j count, ← add-one (j + count), ← is) (reached-send need took byte sent due law (reached-sends r before) e h)
+
+-- what single actions keep, whatever the bytes, several keep
+module _ {S : Type 0} (m : Machine ℕ S) (P : S → Type 0) (kept : Kept m (λ (b : ℕ). Unit {0}) (λ _ s. P s)) where
+  pub takes-keep : {input : List ℕ} {i count : ℕ} {s t : S} → Takes m input i s count t → P s → P t
+  takes-keep steps.none p = p
+  takes-keep {input} {i} (steps.more {count} {t} before e h) p = kept [] t (getD input (i + count) 0 ∷ []) 1 1 e refl (tt, tt) (takes-keep before p)
+
+  pub sends-keep : {j count : ℕ} {s t : S} {old reply : List ℕ} → Sends m s j old count t reply → P s → P t
+  sends-keep steps.none p = p
+  sends-keep (steps.more {count} {byte = b} {t} before e says h) p = kept [] t [] 0 0 e refl tt (sends-keep before p)
+
+-- the reply slice keeps its length
+pub sends-length : {S : Type 0} (k : Machine ℕ S) {j count : ℕ} {s t : S} {old reply : List ℕ} → Sends k s j old count t reply → length reply ≡ length old
+sends-length k steps.none = refl
+sends-length k {j} (steps.more {count} {byte = b} {t} {reply} before e says h) = length-set reply (j + count) b ∙ sends-length k before

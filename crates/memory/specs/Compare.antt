@@ -1,0 +1,12 @@
+-- Bytes compared with those in a memory (01, "uartboot session": if verify is 1, compare).
+-- Assumes nothing.
+use Prim.Native.Nat.{ℕ}
+use mathlib.Core.Bool.{Bool, true, false, _&&_}
+use mathlib.Core.List.{List, [], _∷_}
+use lib.Dec.{eqb}
+
+-- a part of a memory begins with these bytes
+abbrev pub stands : (bytes part : List ℕ) → Bool
+stands [] part = true
+stands (byte ∷ bytes) [] = false
+stands (byte ∷ bytes) (there ∷ part) = eqb there byte && stands bytes part

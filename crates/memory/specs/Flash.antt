@@ -1,0 +1,39 @@
+-- Flash (01, "Memories and the record": erase sets bytes to 0xFF, a flash store leaves old AND new; "uartboot session": Erase takes
+-- every 4,096-byte sector touching the area).
+-- Assumes nothing.
+use Prim.Native.Nat.{ℕ, _+_, _-_, _*_, _/_, _<_, _≤_}
+use mathlib.Core.Path.{_≡_}
+use mathlib.Core.Bool.{true}
+use mathlib.Core.List.{List, [], _∷_}
+use lib.Bits.{bitAnd}
+use lib.ListN.{replicate}
+use Rattle.wire.specs.Length.{sectorLength, isFlashLength}
+use Rattle.memory.specs.Store.{laid, changedFrom}
+
+-- a part of flash with bytes stored at its front
+abbrev pub burnt : (bytes part : List ℕ) → List ℕ
+burnt [] part = part
+burnt (new ∷ bytes) [] = []
+burnt (new ∷ bytes) (old ∷ part) = bitAnd old new ∷ burnt bytes part
+
+-- erased bytes
+abbrev pub blank : (count : ℕ) → List ℕ
+blank count = replicate count 0xFF
+
+-- the sector of an offset
+abbrev pub sectorOf : (offset : ℕ) → ℕ
+sectorOf offset = offset / sectorLength
+
+-- how many sectors touch an area of 1 byte or more: those of its first byte, of its last, and all between
+abbrev pub sectorsOf : (offset size : ℕ) → ℕ
+sectorsOf offset size = sectorOf (offset + size - 1) - sectorOf offset + 1
+
+-- flash with every sector erased that touches the area
+unfoldable pub erased : (offset size : ℕ) (flash : List ℕ) → List ℕ
+erased offset size flash = changedFrom (sectorOf offset * sectorLength) (laid (blank (sectorsOf offset size * sectorLength))) flash
+
+-- an area of 1 byte or more that lies in a flash of `length` bytes
+pub record Area (offset size length : ℕ) : Type 0 where
+  pub some : 0 < size
+  pub inside : offset + size ≤ length
+  pub flash-length : isFlashLength length ≡ true

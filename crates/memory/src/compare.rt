@@ -1,0 +1,20 @@
+// Bytes compared with those in a memory.
+ghost use mathlib.Core.Path.{_≡_};
+ghost use Prim.Native.Nat.{_≤_};
+ghost use lib.ListN.{length};
+ghost use Rattle.memory.specs.Compare.{stands};
+
+// Whether a part of a memory begins with these bytes.
+pub fn stands(bytes: &[u8], part: &[u8]) -> bool
+    requires { ⌜ length (now bytes) ≤ length (now part) ⌝ }
+    ensures { λ r. ⌜ r ≡ stands (now (bytes .entry)) (now (part .entry)) ⌝ }
+{
+    let mut i = 0;
+    while i < bytes.len() {
+        if part[i] != bytes[i] {
+            return false;
+        }
+        i += 1;
+    }
+    true
+}

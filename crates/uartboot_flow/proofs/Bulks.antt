@@ -1,0 +1,73 @@
+-- Payload bytes taken one by one are one copy into the work buffer; answer bytes sent one by one are one copy into the reply.
+-- Assumes nothing.
+use Prim.Native.Nat.{ℕ, zero, suc, _+_, _-_, _<_, _≤_, min}
+use native.Mathlib.Omega.{arith}
+use native.Mathlib.Nat.{add-zero, add-suc}
+use native.Mathlib.Numerals.{add-one}
+use mathlib.Core.Path.{_≡_, refl, sym, _∙_}
+use mathlib.Core.List.{List}
+use lib.ListN.{length, take, drop, getD, set, length-drop, length-take}
+use lib.Seq.{getD-drop, getD-take, length-take-le, paste, paste-zero, paste-suc}
+use borrow.Author.Tests.{lt-ltb}
+use Rattle.memory.specs.Copy.{Copied}
+use Rattle.machine.specs.Steps.{Takes, Sends}
+use Rattle.machine.specs.Steps as steps
+use Rattle.machine.proofs.Repeats.{sends-length}
+use Rattle.command.specs.declared.opcode.Opcode.{Opcode}
+use Rattle.command.specs.Memories.{Memories, memories}
+use Rattle.uartboot_flow.specs.declared.step.Step.the-variants.{Command, Answer}
+use Rattle.uartboot_flow.specs.declared.step.CommandStep.the-variants.{TakePayload}
+use Rattle.uartboot_flow.specs.declared.step.AnswerStep.the-variants.{SendAnswer}
+use Rattle.uartboot_flow.specs.State.{State, state}
+use Rattle.uartboot_flow.specs.Flow.{arrived, showed}
+use Rattle.uartboot_flow.specs.Due.{device}
+use Rattle.uartboot_flow.specs.Gives.{Taken, Shown}
+
+module _ (opcode : Opcode) (n p reason : ℕ) (input : List ℕ) (i : ℕ) (ram flash work : List ℕ) (inside : p < n) (fits : n ≤ length work) where
+  payload-run : (q : ℕ) → q ≤ n - p → i + q ≤ length input →
+      Takes device input i (state (Command opcode n (TakePayload p)) reason (memories ram flash work)) q
+      (arrived reason (memories ram flash (paste work p (drop i input) q)) opcode n (p + q))
+  payload-run zero h l = rw (← paste-zero work p (drop i input), add-zero p, lt-ltb p n inside) steps.none
+  payload-run (suc q) h l =
+      let x : p + q < n = omega arith in
+      let y : i + q < length input = omega arith in
+      let v : p + q < length work = omega arith in
+      let w : q < length (drop i input) = simp length-drop (omega arith) in
+      let before = rw (lt-ltb (p + q) n x) at (payload-run q (omega arith) (omega arith)) in
+      rw (← paste-suc work p (drop i input) q 0 v w, getD-drop, add-suc p q, ← add-one (p + q)) (steps.more before refl y)
+
+  pub payload-taken : (q : ℕ) (work′ : List ℕ) → i < length input → Copied input i work p n work′ q → (t : State) →
+      t ≡ arrived reason (memories ram flash work′) opcode n (p + q) →
+      Taken input i (state (Command opcode n (TakePayload p)) reason (memories ram flash work)) q t
+  payload-taken q work′ h c t e =
+      let x : q ≡ min (n - p) (length input - i) = c .count-is in
+      record { some = omega arith; takes = rw (e, c .memory-is) (payload-run q (omega arith) (omega arith)) }
+
+-- no more bytes of an answer are shown than it has
+pub shown-few : (n p : ℕ) (work old : List ℕ) (j e q : ℕ) (reply : List ℕ) → Copied (take n work) p old j e reply q → n ≤ length work → q ≤ n - p
+shown-few n p work old j e q reply c fits =
+    let k : length (take n work) ≡ n = length-take-le n work fits in
+    let x : q ≡ min (e - j) (length (take n work) - p) = c .count-is in
+    omega arith
+
+module _ (opcode : Opcode) (n p reason : ℕ) (ram flash work : List ℕ) (old : List ℕ) (j : ℕ) (inside : p < n) (fits : n ≤ length work) where
+  answer-run : (q : ℕ) → q ≤ n - p → j + q ≤ length old →
+      Sends device (state (Answer opcode n (SendAnswer p)) reason (memories ram flash work)) j old q
+      (state (showed opcode n (p + q)) reason (memories ram flash work)) (paste old j (drop p (take n work)) q)
+  answer-run zero h l = rw (← paste-zero old j (drop p (take n work)), add-zero p, lt-ltb p n inside) steps.none
+  answer-run (suc q) h l =
+      let x : p + q < n = omega arith in
+      let v : j + q < length old = omega arith in
+      let k : length (take n work) ≡ n = length-take-le n work fits in
+      let w : q < length (drop p (take n work)) = simp length-drop (omega arith) in
+      let before = rw (lt-ltb (p + q) n x) at (answer-run q (omega arith) (omega arith)) in
+      let room : j + q < length (paste old j (drop p (take n work)) q) = omega (arith, sends-length device before) in
+      rw (← paste-suc old j (drop p (take n work)) q 0 v w, getD-drop, getD-take n work (p + q) 0 x, add-suc p q, ← add-one (p + q)) (steps.more before refl refl room)
+
+  pub answer-shown : (q : ℕ) (reply : List ℕ) → j < length old → Copied (take n work) p old j (length old) reply q → (t : State) →
+      t ≡ state (showed opcode n (p + q)) reason (memories ram flash work) →
+      Shown (state (Answer opcode n (SendAnswer p)) reason (memories ram flash work)) j old q t reply
+  answer-shown q reply h c t e =
+      let k : length (take n work) ≡ n = length-take-le n work fits in
+      let x : q ≡ min (length old - j) (length (take n work) - p) = c .count-is in
+      record { some = omega arith; sends = rw (e, c .memory-is) (answer-run q (omega arith) (omega arith)) }

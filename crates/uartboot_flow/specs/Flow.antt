@@ -1,0 +1,164 @@
+-- uartboot's flow (01, "uartboot session", steps 1 to 5, and "Numbers given back": reasons 11, 12, 13, 19 and 20; those of a command
+-- and of its execution stand with the command). Each line says what a step does: it takes a byte, and the byte says where the flow
+-- goes, or it sends a byte and goes on.
+-- Assumes nothing.
+use Prim.Native.Nat.{ℕ, _+_, _*_, _/_, _%_}
+use mathlib.Core.Bool.{cond, not}
+use mathlib.Core.List.{List, [], _∷_}
+use lib.Dec.{eqb, ltb}
+use lib.ListN.{length, take, getD, set}
+use Rattle.wire.specs.Line.{soh, ack, nak}
+use Rattle.crc.specs.Rule.{rule16}
+use Rattle.crc.specs.Crc.{crcOf}
+use Rattle.machine.specs.Does.{Does, takes, sends, runs, tookOf, sentOf}
+use Rattle.command.specs.declared.opcode.Opcode.{Opcode}
+use Rattle.command.specs.declared.opcode.Lookup.{Lookup}
+use Rattle.command.specs.declared.opcode.Lookup.the-variants.{Known, Unknown}
+use Rattle.command.specs.declared.execution.Ending.{Ending}
+use Rattle.command.specs.declared.execution.Ending.the-variants.{Silent, Answers, Runs, Failed}
+use Rattle.command.specs.Opcode.{opcodeOf, hasLength}
+use Rattle.command.specs.Payload.{commandOf}
+use Rattle.command.specs.Memories.{Memories, memories}
+use Rattle.command.specs.Execution.{checked, executed}
+use Rattle.uartboot_flow.specs.declared.step.Step.{Step}
+use Rattle.uartboot_flow.specs.declared.step.Step.the-variants.{Greeting, Header, Command, Answer, Refusal, Running}
+use Rattle.uartboot_flow.specs.declared.step.HeaderStep.{HeaderStep}
+use Rattle.uartboot_flow.specs.declared.step.HeaderStep.the-variants.{TakeSoh, TakeOpcode, TakeLow, TakeHigh}
+use Rattle.uartboot_flow.specs.declared.step.CommandStep.{CommandStep}
+use Rattle.uartboot_flow.specs.declared.step.CommandStep.the-variants.{SendAck, TakePayload, SendPayloadAck, SendCrcLow, SendCrcHigh, TakeGo}
+use Rattle.uartboot_flow.specs.declared.step.AnswerStep.{AnswerStep}
+use Rattle.uartboot_flow.specs.declared.step.AnswerStep.the-variants as a
+use Rattle.uartboot_flow.specs.State.{State, state}
+
+-- 02 01 00 03
+abbrev pub greetingLength : ℕ
+greetingLength = 4
+
+abbrev pub greeting : (place : ℕ) → ℕ
+greeting place = cond (eqb place 0) 0x02 (cond (eqb place 1) 0x01 (cond (eqb place 2) 0x00 0x03))
+
+-- unknown opcode; a length that the opcode doesn't have; a length above the work buffer; the host's CRC differs; a byte other than 06
+abbrev pub unknownOpcode : ℕ
+unknownOpcode = 11
+
+abbrev pub badLength : ℕ
+badLength = 12
+
+abbrev pub longPayload : ℕ
+longPayload = 13
+
+abbrev pub crcDiffers : ℕ
+crcDiffers = 19
+
+abbrev pub notAcked : ℕ
+notAcked = 20
+
+-- the CRC-16 of the first bytes of the work buffer
+unfoldable pub crc16 : (count : ℕ) (work : List ℕ) → ℕ
+crc16 count work = crcOf rule16 (take count work)
+
+-- the flow's first step
+abbrev pub first : Step
+first = Greeting 0
+
+-- step 3: without an answer step 1 follows, with an answer step 4; a failure sends 15
+abbrev pub ends : (reason : ℕ) → Opcode → Ending → Memories → State
+ends reason opcode Silent m = state first reason m
+ends reason opcode (Answers count) m = state (Answer opcode count a.SendLengthLow) reason m
+ends reason opcode (Runs address) m = state (Running address) reason m
+ends reason opcode (Failed why) m = state Refusal why m
+
+module _ (reason : ℕ) (m : Memories) where
+  -- the flow goes on; the last reason and the memories stay
+  abbrev pub goes : Step → State
+  goes step = state step reason m
+
+  -- a reason is noted; its 15 is sent, and then step 1 follows
+  abbrev pub refuses : (why : ℕ) → State
+  refuses why = state Refusal why m
+
+  -- a byte other than 06: nothing is sent, step 1 follows
+  abbrev pub abandons : State
+  abandons = state first notAcked m
+
+  abbrev pub executes : Opcode → (length : ℕ) → State
+  executes opcode length = let e = executed opcode length m in ends reason opcode (e .ending) (e .after)
+
+  -- step 1: the greeting; then bytes dropped until 01, opcode, length LSB, MSB; 11, 12, 13
+  abbrev pub greets : (place : ℕ) → Does ℕ State
+  greets place = sends (greeting place) (goes (cond (ltb (place + 1) greetingLength) (Greeting (place + 1)) (Header TakeSoh)))
+
+  abbrev pub headed : Lookup → (count : ℕ) → State
+  headed Unknown count = refuses unknownOpcode
+  headed (Known opcode) count =
+      cond (not (hasLength opcode count)) (refuses badLength)
+      (cond (ltb (length (m .work)) count) (refuses longPayload)
+      (goes (Command opcode count SendAck)))
+
+  abbrev pub header : HeaderStep → Does ℕ State
+  header TakeSoh = takes (λ byte. goes (Header (cond (eqb byte soh) TakeOpcode TakeSoh)))
+  header TakeOpcode = takes (λ byte. goes (Header (TakeLow byte)))
+  header (TakeLow opcode) = takes (λ byte. goes (Header (TakeHigh opcode byte)))
+  header (TakeHigh opcode low) = takes (λ byte. headed (opcodeOf opcode) (low + 256 * byte))
+
+  -- step 2: `count` of the payload's bytes are in; behind the last one it is checked
+  abbrev pub checkedWith : (why : ℕ) → Opcode → (length : ℕ) → State
+  checkedWith why opcode length = cond (eqb why 0) (goes (Command opcode length SendPayloadAck)) (refuses why)
+
+  abbrev pub arrived : Opcode → (length count : ℕ) → State
+  arrived opcode length count =
+      cond (ltb count length) (goes (Command opcode length (TakePayload count)))
+      (checkedWith (checked (commandOf opcode length (m .work)) m) opcode length)
+
+-- the payload's byte stored at its place
+abbrev pub stored : (place byte : ℕ) → Memories → Memories
+stored place byte m = memories (m .ram) (m .flash) (set (m .work) place byte)
+
+-- `count` of an answer's bytes are sent
+abbrev pub showed : Opcode → (length count : ℕ) → Step
+showed opcode length count = Answer opcode length (cond (ltb count length) (a.SendAnswer count) a.TakeCrcLow)
+
+module _ (reason : ℕ) (m : Memories) where
+  -- the header's 06, step 2, and step 3 where a command has no payload
+  abbrev pub command : Opcode → (length : ℕ) → CommandStep → Does ℕ State
+  command opcode length SendAck =
+      sends ack (cond (eqb length 0) (executes reason m opcode length) (goes reason m (Command opcode length (TakePayload 0))))
+  command opcode length (TakePayload place) = takes (λ byte. arrived reason (stored place byte m) opcode length (place + 1))
+  command opcode length SendPayloadAck = sends ack (goes reason m (Command opcode length SendCrcLow))
+  command opcode length SendCrcLow = sends (crc16 length (m .work) % 256) (goes reason m (Command opcode length SendCrcHigh))
+  command opcode length SendCrcHigh = sends (crc16 length (m .work) / 256) (goes reason m (Command opcode length TakeGo))
+  command opcode length TakeGo = takes (λ byte. cond (eqb byte ack) (executes reason m opcode length) (abandons reason m))
+
+  -- step 4: the host's CRC is compared with the answer's
+  abbrev pub hosted : Opcode → (length crc : ℕ) → State
+  hosted opcode length crc =
+      cond (eqb crc (crc16 length (m .work))) (goes reason m (Answer opcode length a.SendAck)) (refuses reason m crcDiffers)
+
+  abbrev pub answer : Opcode → (length : ℕ) → AnswerStep → Does ℕ State
+  answer opcode length a.SendLengthLow = sends (length % 256) (goes reason m (Answer opcode length a.SendLengthHigh))
+  answer opcode length a.SendLengthHigh = sends (length / 256) (goes reason m (Answer opcode length a.TakeGo))
+  answer opcode length a.TakeGo = takes (λ byte. cond (eqb byte ack) (goes reason m (Answer opcode length (a.SendAnswer 0))) (abandons reason m))
+  answer opcode length (a.SendAnswer place) = sends (getD (m .work) place 0) (goes reason m (showed opcode length (place + 1)))
+  answer opcode length a.TakeCrcLow = takes (λ byte. goes reason m (Answer opcode length (a.TakeCrcHigh byte)))
+  answer opcode length (a.TakeCrcHigh low) = takes (λ byte. hosted opcode length (low + 256 * byte))
+  answer opcode length a.SendAck = sends ack (goes reason m first)
+
+  -- step 5: every 15 also leads to step 1
+  abbrev pub doesAt : Step → Does ℕ State
+  doesAt (Greeting place) = greets reason m place
+  doesAt (Header step) = header reason m step
+  doesAt (Command opcode length step) = command opcode length step
+  doesAt (Answer opcode length step) = answer opcode length step
+  doesAt Refusal = sends nak (goes reason m first)
+  doesAt (Running address) = runs
+
+abbrev pub does : State → Does ℕ State
+does s = doesAt (s .reason) (s .mem) (s .step)
+
+-- the state once a byte is taken
+abbrev pub took : State → (byte : ℕ) → State
+took s byte = tookOf (does s) s byte
+
+-- the state once a byte is sent
+abbrev pub sent : State → State
+sent s = sentOf (does s) s

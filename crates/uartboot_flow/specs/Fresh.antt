@@ -1,0 +1,17 @@
+-- A fresh session (01, "Memories and the record": a fresh record; "Demand 3": it starts at the flow's first step with last reason 0).
+-- Assumes nothing.
+use Prim.Native.Nat.{ℕ}
+use Rattle.machine.specs.declared.Record.{Record}
+use Rattle.command.specs.Memories.{Memories}
+use Rattle.uartboot_flow.specs.State.{State, state}
+use Rattle.uartboot_flow.specs.Flow.{first}
+
+-- the number of the session's kind
+abbrev pub kindNumber : ℕ
+kindNumber = 2
+
+abbrev pub freshRecord : Record
+freshRecord = record { kind = kindNumber; phase = 0; opcode = 0; length = 0; place = 0; held = 0; reason = 0; spare = 0 }
+
+abbrev pub fresh : Memories → State
+fresh m = state first 0 m

@@ -1,0 +1,64 @@
+-- What holds of every state that calls can reach.
+-- Assumes nothing.
+use Prim.Native.Nat.{ℕ, _≤_, _<_}
+use mathlib.Core.Path.{_≡_}
+use mathlib.Core.Bool.{true}
+use lib.ListN.{length}
+use Rattle.wire.specs.Range.{liesIn}
+use Rattle.wire.specs.Unit.{ramBase}
+use Rattle.command.specs.declared.opcode.Opcode.{Opcode}
+use Rattle.command.specs.Payload.{Carried}
+use Rattle.command.specs.Memories.{Memories, Fitting}
+use Rattle.command.specs.Execution.{Answering}
+use Rattle.uartboot_flow.specs.declared.step.Step.{Step}
+use Rattle.uartboot_flow.specs.declared.step.Step.the-variants.{Greeting, Header, Command, Answer, Refusal, Running}
+use Rattle.uartboot_flow.specs.declared.step.CommandStep.{CommandStep}
+use Rattle.uartboot_flow.specs.declared.step.CommandStep.the-variants.{SendAck, TakePayload, SendPayloadAck, SendCrcLow, SendCrcHigh, TakeGo}
+use Rattle.uartboot_flow.specs.declared.step.AnswerStep.{AnswerStep}
+use Rattle.uartboot_flow.specs.declared.step.AnswerStep.the-variants as a
+use Rattle.uartboot_flow.specs.State.{State}
+use Rattle.uartboot_flow.specs.Flow.{greetingLength}
+
+-- only the header's 06 has commands without payload; a payload's next byte lies in it
+abbrev pub SoundCommand : (length : ℕ) → CommandStep → Type 0
+SoundCommand length SendAck = Unit {0}
+SoundCommand length (TakePayload place) = place < length
+SoundCommand length SendPayloadAck = 0 < length
+SoundCommand length SendCrcLow = 0 < length
+SoundCommand length SendCrcHigh = 0 < length
+SoundCommand length TakeGo = 0 < length
+
+abbrev pub SoundAnswer : (length : ℕ) → AnswerStep → Type 0
+SoundAnswer length a.SendLengthLow = Unit {0}
+SoundAnswer length a.SendLengthHigh = Unit {0}
+SoundAnswer length a.TakeGo = Unit {0}
+SoundAnswer length (a.SendAnswer place) = place < length
+SoundAnswer length a.TakeCrcLow = Unit {0}
+SoundAnswer length (a.TakeCrcHigh low) = Unit {0}
+SoundAnswer length a.SendAck = Unit {0}
+
+-- with so many bytes of RAM, and of work buffer
+abbrev pub SoundStep : (ram work : ℕ) → Step → Type 0
+SoundStep ram work (Greeting place) = place < greetingLength
+SoundStep ram work (Header step) = Unit {0}
+SoundStep ram work (Command opcode length step) = Carried opcode length work × SoundCommand length step
+SoundStep ram work (Answer opcode length step) = Answering opcode length work × SoundAnswer length step
+SoundStep ram work Refusal = Unit {0}
+SoundStep ram work (Running address) = liesIn (address .0) 1 ramBase ram ≡ true
+
+-- a step to go on from, with these memories
+pub record Ready (step : Step) (m : Memories) : Type 0 where
+  pub fitting : Fitting (length (m .ram)) (length (m .flash)) (length (m .work))
+  pub step-sound : SoundStep (length (m .ram)) (length (m .work)) step
+
+abbrev pub Sound : State → Type 0
+Sound s = Ready (s .step) (s .mem)
+
+-- payload and answer lie in a work buffer of `size` bytes
+abbrev pub InWork : Step → (size : ℕ) → Type 0
+InWork (Greeting place) size = Unit {0}
+InWork (Header step) size = Unit {0}
+InWork (Command opcode length step) size = length ≤ size
+InWork (Answer opcode length step) size = length ≤ size
+InWork Refusal size = Unit {0}
+InWork (Running address) size = Unit {0}

@@ -1,0 +1,98 @@
+// Execution, and what the flow does behind it.
+ghost use mathlib.Core.Path.{_≡_};
+ghost use lib.ListN.{length};
+ghost use Rattle.command.specs.Payload.{Carried};
+ghost use Rattle.command.specs.Memories.{memories, Fitting};
+ghost use Rattle.uartboot_flow.specs.Flow.{ends, executes, took, sent};
+ghost use Rattle.uartboot_flow.specs.State.{state};
+ghost use Rattle.uartboot_flow.specs.Gives.{stands, EndsIn};
+use crate::header::to;
+use crate::step::AnswerStep;
+use crate::step::CommandStep;
+use crate::step::Progress;
+use crate::step::Step;
+use command::execution::Ending;
+use command::execution::execute;
+use command::opcode::Opcode;
+use wire::line::ACK;
+
+// The reason where a byte other than 06 came.
+pub const NOT_ACKED: u32 = 20;
+
+// Where the flow goes behind an execution.
+fn behind(opcode: Opcode, reason: u32, ending: Ending) -> Progress
+    ensures { λ r. ⌜ EndsIn r (ends reason opcode ending) ⌝ }
+{
+    match ending {
+        Ending::Silent => to(Step::Greeting(0), reason),
+        Ending::Answers(count) => {
+            to(
+                Step::Answer(opcode, count, AnswerStep::SendLengthLow),
+                reason,
+            )
+        }
+        Ending::Runs(address) => to(Step::Running(address), reason),
+        Ending::Failed(why) => to(Step::Refusal, why),
+    }
+}
+
+// Executes a command.
+fn go(
+    opcode: Opcode,
+    size: u32,
+    reason: u32,
+    ram: &mut [u8],
+    flash: &mut [u8],
+    work: &mut [u8],
+) -> Progress
+    requires { ⌜ Carried opcode size (length (now work)) ⌝ }
+    requires { ⌜ Fitting (length (now ram)) (length (now flash)) (length (now work)) ⌝ }
+    ensures { λ r. ⌜ stands r (memories (now (ram .exit)) (now (flash .exit)) (now (work .exit))) ≡ executes reason (memories (now (ram .entry)) (now (flash .entry)) (now (work .entry))) opcode size ⌝ }
+{
+    let ending = execute(opcode, size, ram, flash, work);
+    behind(opcode, reason, ending)
+}
+
+// Takes the host's byte behind the payload's CRC: only 06 lets the command be executed.
+pub fn take_go(
+    opcode: Opcode,
+    size: u32,
+    reason: u32,
+    byte: u8,
+    ram: &mut [u8],
+    flash: &mut [u8],
+    work: &mut [u8],
+) -> Progress
+    requires { ⌜ Carried opcode size (length (now work)) ⌝ }
+    requires { ⌜ Fitting (length (now ram)) (length (now flash)) (length (now work)) ⌝ }
+    ensures { λ r. ⌜ stands r (memories (now (ram .exit)) (now (flash .exit)) (now (work .exit))) ≡ took (state (Step.Command opcode size CommandStep.TakeGo) reason (memories (now (ram .entry)) (now (flash .entry)) (now (work .entry)))) byte ⌝ }
+{
+    if byte == ACK {
+        go(opcode, size, reason, ram, flash, work)
+    } else {
+        to(Step::Greeting(0), NOT_ACKED)
+    }
+}
+
+// What follows the header's 06: a command without payload is executed.
+pub fn accept(
+    opcode: Opcode,
+    size: u32,
+    reason: u32,
+    ram: &mut [u8],
+    flash: &mut [u8],
+    work: &mut [u8],
+) -> Progress
+    requires { ⌜ Carried opcode size (length (now work)) ⌝ }
+    requires { ⌜ Fitting (length (now ram)) (length (now flash)) (length (now work)) ⌝ }
+    ensures { λ r. ⌜ stands r (memories (now (ram .exit)) (now (flash .exit)) (now (work .exit))) ≡ sent (state (Step.Command opcode size CommandStep.SendAck) reason (memories (now (ram .entry)) (now (flash .entry)) (now (work .entry)))) ⌝ }
+{
+    if size == 0 {
+        go(opcode, size, reason, ram, flash, work)
+    } else {
+        to(
+            Step::Command(opcode, size, CommandStep::TakePayload(0)),
+            reason,
+        )
+    }
+}

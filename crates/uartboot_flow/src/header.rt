@@ -1,0 +1,87 @@
+// The header: its bytes, and the three tests behind its last one.
+ghost use mathlib.Core.Path.{_≡_};
+ghost use mathlib.Core.Bool.{true};
+ghost use Prim.Native.Nat.{_+_, _*_};
+ghost use lib.ListN.{length};
+ghost use Rattle.wire.specs.Length.{isWorkLength};
+ghost use Rattle.command.specs.Opcode.{opcodeOf};
+ghost use Rattle.uartboot_flow.specs.Flow.{headed, took};
+ghost use Rattle.uartboot_flow.specs.State.{state};
+ghost use Rattle.uartboot_flow.specs.Gives.{progress, Gives};
+use crate::step::CommandStep;
+use crate::step::HeaderStep;
+use crate::step::Progress;
+use crate::step::Step;
+use command::opcode::Lookup;
+use command::opcode::has_length;
+use command::opcode::opcode_of;
+use wire::line::SOH;
+
+// The reason where the opcode is unknown.
+pub const UNKNOWN_OPCODE: u32 = 11;
+
+// The reason where the opcode doesn't have the length.
+pub const BAD_LENGTH: u32 = 12;
+
+// The reason where the length is above the work buffer's.
+pub const LONG_PAYLOAD: u32 = 13;
+
+pub fn to(step: Step, reason: u32) -> Progress
+    ensures { λ r. ⌜ r ≡ progress step reason ⌝ }
+{
+    Progress {
+        step: step,
+        reason: reason,
+    }
+}
+
+// The number that two bytes make, where the low one may be any number.
+pub fn pair(low: u32, high: u8) -> usize
+    ensures { λ r. ⌜ r ≡ low + 256 * high ⌝ }
+{
+    (low as usize) + 256 * (high as usize)
+}
+
+// A header with its length.
+fn head(opcode: u32, size: usize, reason: u32, work: &[u8]) -> Progress
+    requires { ⌜ isWorkLength (length (now work)) ≡ true ⌝ }
+    ensures { λ r. ⌜ Gives (now (work .entry)) r (λ m. headed reason m (opcodeOf opcode) size) ⌝ }
+{
+    let Lookup::Known(known) = opcode_of(opcode) else {
+        return to(Step::Refusal, UNKNOWN_OPCODE);
+    };
+    if !has_length(known, size) {
+        return to(Step::Refusal, BAD_LENGTH);
+    }
+    if work.len() < size {
+        return to(Step::Refusal, LONG_PAYLOAD);
+    }
+    to(
+        Step::Command(known, size as u32, CommandStep::SendAck),
+        reason,
+    )
+}
+
+// What a taken byte does to a header.
+pub fn took_header(step: HeaderStep, reason: u32, byte: u8, work: &[u8]) -> Progress
+    requires { ⌜ isWorkLength (length (now work)) ≡ true ⌝ }
+    ensures { λ r. ⌜ Gives (now (work .entry)) r (λ m. took (state (Step.Header step) reason m) byte) ⌝ }
+{
+    match step {
+        HeaderStep::TakeSoh => {
+            if byte == SOH {
+                to(Step::Header(HeaderStep::TakeOpcode), reason)
+            } else {
+                to(Step::Header(HeaderStep::TakeSoh), reason)
+            }
+        }
+        HeaderStep::TakeOpcode => to(Step::Header(HeaderStep::TakeLow(byte as u32)), reason),
+        HeaderStep::TakeLow(opcode) => {
+            to(
+                Step::Header(HeaderStep::TakeHigh(opcode, byte as u32)),
+                reason,
+            )
+        }
+        HeaderStep::TakeHigh(opcode, low) => head(opcode, pair(low, byte), reason, work),
+    }
+}

@@ -1,0 +1,10 @@
+// The uartboot session's flow, step by step: what each step asks, what a taken byte does, what follows a sent one.
+pub mod answer;
+pub mod ask;
+pub mod go;
+pub mod header;
+pub mod payload;
+pub mod sent;
+pub mod step;
+pub mod turn;
+pub mod uartboot;

@@ -1,0 +1,112 @@
+// One turn of the session: takes or sends what the step asks, in bulk where it is a payload or an answer.
+ghost use mathlib.Core.Path.{_≡_};
+ghost use mathlib.Core.Bool.{true};
+ghost use Prim.Native.Nat.{_<_};
+ghost use lib.ListN.{length};
+ghost use Rattle.wire.specs.Length.{isWorkLength};
+ghost use Rattle.command.specs.Memories.{memories};
+ghost use Rattle.uartboot_flow.specs.Ask.{askOf};
+ghost use Rattle.uartboot_flow.specs.Flow.{took};
+ghost use Rattle.uartboot_flow.specs.Sound.{Ready, InWork};
+ghost use Rattle.uartboot_flow.specs.State.{state};
+ghost use Rattle.uartboot_flow.specs.Gives.{Gives, Taken, Shown};
+use crate::answer::send_answer;
+use crate::answer::took_answer;
+use crate::ask::Ask;
+use crate::ask::Sending;
+use crate::ask::Taking;
+use crate::go::accept;
+use crate::go::take_go;
+use crate::header::to;
+use crate::header::took_header;
+use crate::payload::take_payload;
+use crate::sent::byte_of;
+use crate::sent::sent;
+use crate::step::Moved;
+use crate::step::Progress;
+use crate::step::Step;
+use wire::line::ACK;
+
+// One byte was taken, or sent.
+fn one(after: Progress) -> Moved
+    ensures { λ r. ⌜ r ≡ record { step = after .step; reason = after .reason; count = 1 } ⌝ }
+{
+    let step = after.step;
+    Moved {
+        step: step,
+        reason: after.reason,
+        count: 1,
+    }
+}
+
+// What a taken byte does where it changes no memory.
+fn took(step: Step, reason: u32, byte: u8, work: &[u8]) -> Progress
+    requires { ⌜ askOf step ≡ Ask.Take Taking.Byte ⌝ }
+    requires { ⌜ (InWork step (length (now work))) × (isWorkLength (length (now work)) ≡ true) ⌝ }
+    ensures { λ r. ⌜ Gives (now (work .entry)) r (λ m. took (state step reason m) byte) ⌝ }
+{
+    match step {
+        Step::Header(inner) => took_header(inner, reason, byte, work),
+        Step::Answer(opcode, size, inner) => took_answer(opcode, size, inner, reason, byte, work),
+        Step::Greeting(_) => to(step, reason),
+        Step::Command(_, _, _) => to(step, reason),
+        Step::Refusal => to(step, reason),
+        Step::Running(_) => to(step, reason),
+    }
+}
+
+// Takes what the step asks, from input byte i on.
+pub fn take(
+    taking: Taking,
+    step: Step,
+    reason: u32,
+    input: &[u8],
+    i: usize,
+    ram: &mut [u8],
+    flash: &mut [u8],
+    work: &mut [u8],
+) -> Moved
+    requires { ⌜ Ready step (memories (now ram) (now flash) (now work)) ⌝ }
+    requires { ⌜ (askOf step ≡ Ask.Take taking) × (i < length (now input)) ⌝ }
+    ensures { λ r. ⌜ Taken (now (input .entry)) i (state step reason (memories (now (ram .entry)) (now (flash .entry)) (now (work .entry)))) (r .count) (state (r .step) (r .reason) (memories (now (ram .exit)) (now (flash .exit)) (now (work .exit)))) ⌝ }
+{
+    match taking {
+        Taking::Byte => one(took(step, reason, input[i], work)),
+        Taking::Payload(opcode, size, place) => {
+            take_payload(opcode, size, place, reason, input, i, ram, flash, work)
+        }
+        Taking::Go(opcode, size) => {
+            one(take_go(opcode, size, reason, input[i], ram, flash, work))
+        }
+    }
+}
+
+// Sends what the step asks, from reply byte j on.
+pub fn send(
+    sending: Sending,
+    step: Step,
+    reason: u32,
+    reply: &mut [u8],
+    j: usize,
+    ram: &mut [u8],
+    flash: &mut [u8],
+    work: &mut [u8],
+) -> Moved
+    requires { ⌜ Ready step (memories (now ram) (now flash) (now work)) ⌝ }
+    requires { ⌜ (askOf step ≡ Ask.Send sending) × (j < length (now reply)) ⌝ }
+    ensures { λ r. ⌜ Shown (state step reason (memories (now (ram .entry)) (now (flash .entry)) (now (work .entry)))) j (now (reply .entry)) (r .count) (state (r .step) (r .reason) (memories (now (ram .exit)) (now (flash .exit)) (now (work .exit)))) (now (reply .exit)) ⌝ }
+{
+    match sending {
+        Sending::Byte => {
+            reply[j] = byte_of(step, work);
+            one(to(sent(step), reason))
+        }
+        Sending::Acceptance(opcode, size) => {
+            reply[j] = ACK;
+            one(accept(opcode, size, reason, ram, flash, work))
+        }
+        Sending::Answer(opcode, size, place) => {
+            send_answer(opcode, size, place, reason, work, reply, j)
+        }
+    }
+}
