@@ -25,7 +25,7 @@ use Rattle.command.specs.declared.execution.Ending.the-variants.{Silent,
 use Rattle.command.specs.Opcode.{hasAnswer, isRun}
 use Rattle.command.specs.Payload.{addressAt, offsetAt, writeData, directWriteData, commandOf}
 use Rattle.command.specs.Demand.{demandsOf}
-use Rattle.command.specs.Memories.{Memories, Fitting}
+use Rattle.command.specs.Memories.{Memories, Fitting, SameLengths}
 use Rattle.command.specs.Execution.{Executed, ended, isRunning, isAnswering, checked, executed, performed, Answering}
 use Rattle.command.specs.Execution.{placeOf, version, answered, directWritten, verifyDiffers}
 use Rattle.command.proofs.Demands.{Passed, allowed}
@@ -99,9 +99,7 @@ Fine opcode ram work (Failed reason) = Unit {0}
 
 -- the memories keep their lengths, and the ending is fine
 pub record Kept (opcode : Opcode) (m : Memories) (x : Executed) : Type 0 where
-  pub ram-length : length (x .after .ram) ≡ length (m .ram)
-  pub flash-length : length (x .after .flash) ≡ length (m .flash)
-  pub work-length : length (x .after .work) ≡ length (m .work)
+  pub lengths : SameLengths (x .after) m
   pub fine : Fine opcode (length (m .ram)) (length (m .work)) (x .ending)
 
 module _ (opcode : Opcode) (m : Memories) where
@@ -110,9 +108,7 @@ module _ (opcode : Opcode) (m : Memories) where
   answered-keeps bytes count e has some fits =
       let in-work : length bytes ≤ length (m .work) = omega arith in
       record {
-        ram-length = refl;
-        flash-length = refl;
-        work-length = laid-length bytes (m .work) in-work;
+        lengths = record { same-ram = refl; same-flash = refl; same-work = laid-length bytes (m .work) in-work };
         fine = record { has-answer = sym has; some = omega arith; in-work = in-work };
       }
 
@@ -127,37 +123,31 @@ module _ (opcode : Opcode) (m : Memories) where
       let bytes = partOf writeData n (m .work) in
       let fits : length bytes ≤ length (drop place (m .ram)) = simp (length-take, length-drop) (omega arith) in
       record {
-        ram-length = changed-length (m .ram) place (laid bytes) (laid-length bytes (drop place (m .ram)) fits);
-        flash-length = refl;
-        work-length = refl;
+        lengths = record { same-ram = changed-length (m .ram) place (laid bytes) (laid-length bytes (drop place (m .ram)) fits); same-flash = refl; same-work = refl };
         fine = tt;
       }
   performed-keeps (command.Read address n) fit p has =
       answered-keeps (partOf (placeOf address) n (m .ram)) n (part-length (placeOf address) n (m .ram) (p .in-ram)) has (p .some) (p .answer-fits)
   performed-keeps (command.Copy address n offset) fit p has =
       let bytes = partOf (placeOf address) n (m .ram) in
-      record { ram-length = refl; flash-length = burnt-keeps (offset .0) bytes; work-length = refl; fine = tt }
+      record { lengths = record { same-ram = refl; same-flash = burnt-keeps (offset .0) bytes; same-work = refl }; fine = tt }
   performed-keeps (command.Erase offset n) fit p has =
       let area : Area (offset .0) n (length (m .flash)) = record { some = p .some; inside = p .in-flash; flash-length = fit .flash-length } in
-      record { ram-length = refl; flash-length = erased-length (offset .0) n (m .flash) area; work-length = refl; fine = tt }
+      record { lengths = record { same-ram = refl; same-flash = erased-length (offset .0) n (m .flash) area; same-work = refl }; fine = tt }
   performed-keeps (command.Run address) fit p has =
       record {
-        ram-length = refl;
-        flash-length = refl;
-        work-length = refl;
+        lengths = record { same-ram = refl; same-flash = refl; same-work = refl };
         fine = p .lies-in-ram;
       }
   performed-keeps (command.ReadQspi offset n) fit p has =
       answered-keeps (partOf (offset .0) n (m .flash)) n (part-length (offset .0) n (m .flash) (p .in-flash)) has (p .some) (p .answer-fits)
   performed-keeps command.Version fit p has = answered-keeps version 7 refl has (omega arith) (p .answer-fits)
   performed-keeps command.ChipErase fit p has =
-      record { ram-length = refl; flash-length = length-replicate (length (m .flash)) 0xFF; work-length = refl; fine = tt }
+      record { lengths = record { same-ram = refl; same-flash = length-replicate (length (m .flash)) 0xFF; same-work = refl }; fine = tt }
   performed-keeps (command.DirectWrite verify offset n) fit p has =
       let bytes = partOf directWriteData n (m .work) in
       record {
-        ram-length = refl;
-        flash-length = burnt-keeps (offset .0) bytes;
-        work-length = refl;
+        lengths = record { same-ram = refl; same-flash = burnt-keeps (offset .0) bytes; same-work = refl };
         fine = in-written (Fine opcode (length (m .ram)) (length (m .work))) verify (offset .0) bytes m tt tt;
       }
 
@@ -167,4 +157,4 @@ executed-keeps opcode count m fit =
     let command = commandOf opcode count (m .work) in
     in-executed (Kept opcode m) opcode count m
     (λ e. performed-keeps opcode m command fit (allowed _ _ _ (demandsOf command) e) (performed-ends opcode count m .1))
-    (λ reason. record { ram-length = refl; flash-length = refl; work-length = refl; fine = tt })
+    (λ reason. record { lengths = record { same-ram = refl; same-flash = refl; same-work = refl }; fine = tt })

@@ -24,6 +24,13 @@ module _ {A S : Type 0} where
   Leaves Good P events s (sends byte next) = P (record { state = s; view = [] } ∷ events) next
   Leaves Good P events s runs = Unit {0}
 
+  -- where the events say nothing: what follows from what is left is left, whatever the events
+  pub leaves-weaken : (Good : A → Type 0) (P Q : S → Type 0) (events : List (Event A S)) (s : S) (d : Does A S) → ((t : S) → P t → Q t) →
+      Leaves Good (λ _ t. P t) [] s d → Leaves Good (λ _ t. Q t) events s d
+  leaves-weaken Good P Q events s (takes next) f l = λ a g. f (next a) (l a g)
+  leaves-weaken Good P Q events s (sends byte next) f l = f next l
+  leaves-weaken Good P Q events s runs f l = tt
+
   -- a byte that is sent was counted
   abbrev pub Counted : (due : S → ℕ) → S → Does A S → Type 0
   Counted due s (takes next) = Unit {0}

@@ -1,6 +1,6 @@
 -- Several takes, or sends, in a row, in a call that a program's loop makes; and what they keep.
 -- Assumes nothing.
-use Prim.Native.Nat.{ℕ, _+_}
+use Prim.Native.Nat.{ℕ, _+_, _≤_}
 use native.Mathlib.Nat.{add-zero, add-suc}
 use native.Mathlib.Numerals.{add-one}
 use mathlib.Core.Path.{_≡_, refl, ap, _∙_}
@@ -44,3 +44,12 @@ module _ {S : Type 0} (m : Machine ℕ S) (P : S → Type 0) (kept : Kept m (λ 
 pub sends-length : {S : Type 0} (k : Machine ℕ S) {j count : ℕ} {s t : S} {old reply : List ℕ} → Sends k s j old count t reply → length reply ≡ length old
 sends-length k steps.none = refl
 sends-length k {j} (steps.more {count} {byte = b} {t} {reply} before e says h) = length-set reply (j + count) b ∙ sends-length k before
+
+-- no more is taken than there is, and no more sent than there is room for
+pub takes-fit : {S : Type 0} (k : Machine ℕ S) {input : List ℕ} {i count : ℕ} {s t : S} → Takes k input i s count t → i ≤ length input → i + count ≤ length input
+takes-fit k steps.none h = rw add-zero h
+takes-fit k {i = i} (steps.more {count} before e h) fits = rw (add-suc i count) h
+
+pub sends-fit : {S : Type 0} (k : Machine ℕ S) {j count : ℕ} {s t : S} {old reply : List ℕ} → Sends k s j old count t reply → j ≤ length old → j + count ≤ length reply
+sends-fit k steps.none h = rw add-zero h
+sends-fit k {j} (steps.more {count} {byte = b} {t} {reply} before e says h) fits = rw (length-set reply (j + count) b, add-suc j count) h

@@ -1,16 +1,27 @@
--- The session is a lawful machine.
+-- The session is a lawful machine, and its actions keep the lengths of the memories.
 -- Assumes nothing.
 use Prim.Native.Nat.{ℕ}
-use Rattle.machine.specs.Lawful.{Lawful}
-use Rattle.machine.proofs.Doing.{does-lawful}
+use mathlib.Core.Path.{refl}
+use mathlib.Core.List.{List, []}
+use Rattle.machine.specs.History.{Event}
+use Rattle.machine.specs.Lawful.{Kept, Lawful}
+use Rattle.machine.proofs.Doing.{does-kept, does-lawful, leaves-weaken}
+use Rattle.command.specs.Memories.{Memories, SameLengths}
+use Rattle.uartboot_flow.specs.State.{State}
 use Rattle.uartboot_flow.specs.Flow.{does}
 use Rattle.uartboot_flow.specs.Due.{due, device}
 use Rattle.uartboot_flow.specs.Sound.{Sound}
-use Rattle.uartboot_flow.proofs.Sounds.{does-sound}
+use Rattle.uartboot_flow.proofs.Sounds.{Held, stays-held}
 use Rattle.uartboot_flow.proofs.Dues.{does-due}
+
+pub same-lengths : (m : Memories) → SameLengths m m
+same-lengths m = record { same-ram = refl; same-flash = refl; same-work = refl }
+
+pub held : (m₀ : Memories) (Good : ℕ → Type 0) → Kept device Good (λ _ s. Held m₀ s)
+held m₀ Good = does-kept does due Good (λ _ s. Held m₀ s) (λ events s h. leaves-weaken Good (Held m₀) (Held m₀) events s (does s) (λ t k. k) (stays-held m₀ Good s h))
 
 pub lawful : (Good : ℕ → Type 0) → Lawful device Good Sound
 lawful Good =
     does-lawful does due Good Sound
-    (λ s h. does-sound Good s (s .reason) (s .mem) (s .step) h)
+    (λ s h. leaves-weaken Good (Held (s .mem)) Sound [] s (does s) (λ t k. k .ready) (stays-held (s .mem) Good s (record { ready = h; same = same-lengths (s .mem) })))
     (λ s h. does-due (s .reason) (s .mem) (s .step) h)

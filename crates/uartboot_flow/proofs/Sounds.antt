@@ -1,8 +1,8 @@
--- Every action leaves a sound state.
+-- Every action leaves a sound state, and memories of the same lengths.
 -- Assumes nothing.
 use Prim.Native.Nat.{ℕ, _+_, _*_, _≤_, _<_}
 use native.Mathlib.Omega.{arith}
-use mathlib.Core.Path.{_≡_, refl, sym, subst}
+use mathlib.Core.Path.{_≡_, _∙_}
 use mathlib.Core.Bool.{Bool, true, false, cond, not}
 use mathlib.Core.List.{List, []}
 use lib.Dec.{eqb, ltb}
@@ -19,7 +19,7 @@ use Rattle.command.specs.declared.execution.Ending.{Ending}
 use Rattle.command.specs.declared.execution.Ending.the-variants.{Silent, Answers, Runs, Failed}
 use Rattle.command.specs.Opcode.{opcodeOf, hasLength}
 use Rattle.command.specs.Payload.{Carried, commandOf}
-use Rattle.command.specs.Memories.{Memories, memories, Fitting}
+use Rattle.command.specs.Memories.{Memories, memories, Fitting, SameLengths}
 use Rattle.command.specs.Execution.{executed, checked}
 use Rattle.command.proofs.Executions.{Fine, Kept, executed-keeps}
 use Rattle.uartboot_flow.specs.declared.step.Step.{Step}
@@ -31,94 +31,117 @@ use Rattle.uartboot_flow.specs.declared.step.CommandStep.the-variants.{S
 use Rattle.uartboot_flow.specs.declared.step.AnswerStep.{AnswerStep}
 use Rattle.uartboot_flow.specs.declared.step.AnswerStep.the-variants as a
 use Rattle.uartboot_flow.specs.State.{State, state}
-use Rattle.uartboot_flow.specs.Flow.{crc16, first, goes, refuses, abandons, ends, executes, headed, header, checkedWith, arrived, stored, command, showed, hosted, answer, doesAt}
-use Rattle.uartboot_flow.specs.Sound.{SoundStep, SoundAnswer, Ready, Sound}
+use Rattle.uartboot_flow.specs.Flow.{crc16, first, goes, refuses, abandons, ends, executes, headed, header, checkedWith, arrived, stored, command, showed, hosted, answer, doesAt, does}
+use Rattle.uartboot_flow.specs.Sound.{SoundStep, SoundAnswer, Ready}
 
 abbrev Fits : Memories → Type 0
 Fits m = Fitting (length (m .ram)) (length (m .flash)) (length (m .work))
 
--- a step that asks nothing of its numbers
-at : (step : Step) (m : Memories) → Fits m →
-    SoundStep (length (m .ram)) (length (m .work)) step → Ready step m
-at step m fit h = record { fitting = fit; step-sound = h }
+-- a sound state whose memories have the lengths of m₀
+pub record Held (m₀ : Memories) (s : State) : Type 0 where
+  pub ready : Ready (s .step) (s .mem)
+  pub same : SameLengths (s .mem) m₀
 
--- behind an execution
-ends-sound : (reason : ℕ) (opcode : Opcode) (ending : Ending) (m after : Memories) → Fits m →
-    length (after .ram) ≡ length (m .ram) → length (after .flash) ≡ length (m .flash) → length (after .work) ≡ length (m .work) →
-    Fine opcode (length (m .ram)) (length (m .work)) ending → Sound (ends reason opcode ending after)
-ends-sound reason opcode Silent m after fit r f w h = at first after (rw (r, f, w) fit) (omega arith)
-ends-sound reason opcode (Answers count) m after fit r f w h = at (Answer opcode count a.SendLengthLow) after (rw (r, f, w) fit) (rw w h, tt)
-ends-sound reason opcode (Runs address) m after fit r f w h = at (Running address) after (rw (r, f, w) fit) (rw r h)
-ends-sound reason opcode (Failed why) m after fit r f w h = at Refusal after (rw (r, f, w) fit) tt
+module _ (m₀ : Memories) where
+  at : (step : Step) (reason : ℕ) (m : Memories) → Fits m → SameLengths m m₀ → SoundStep (length (m .ram)) (length (m .work)) step →
+      Held m₀ (state step reason m)
+  at step reason m fit same h = record { ready = record { fitting = fit; step-sound = h }; same = same }
 
-executes-sound : (reason : ℕ) (m : Memories) (opcode : Opcode) (n : ℕ) → Fits m →
-    Sound (executes reason m opcode n)
-executes-sound reason m opcode n fit =
-    let k = executed-keeps opcode n m fit in
-    ends-sound reason opcode (executed opcode n m .ending) m (executed opcode n m .after) fit (k .ram-length) (k .flash-length) (k .work-length) (k .fine)
+  -- behind an execution
+  ends-held : (reason : ℕ) (opcode : Opcode) (ending : Ending) (m after : Memories) → Fits after → SameLengths after m₀ →
+      length (after .ram) ≡ length (m .ram) → length (after .work) ≡ length (m .work) →
+      Fine opcode (length (m .ram)) (length (m .work)) ending → Held m₀ (ends reason opcode ending after)
+  ends-held reason opcode Silent m after fit same r w h = at first reason after fit same (omega arith)
+  ends-held reason opcode (Answers count) m after fit same r w h = at (Answer opcode count a.SendLengthLow) reason after fit same (rw w h, tt)
+  ends-held reason opcode (Runs address) m after fit same r w h = at (Running address) reason after fit same (rw r h)
+  ends-held reason opcode (Failed why) m after fit same r w h = at Refusal why after fit same tt
 
-module _ (reason : ℕ) (m : Memories) (fit : Fits m) where
-  refuses-sound : (why : ℕ) → Sound (refuses reason m why)
-  refuses-sound why = at Refusal m fit tt
+  module _ (reason : ℕ) (m : Memories) (fit : Fits m) (same : SameLengths m m₀) where
+    executes-held : (opcode : Opcode) (n : ℕ) → Held m₀ (executes reason m opcode n)
+    executes-held opcode n =
+        let e = executed opcode n m in
+        let k = executed-keeps opcode n m fit in
+        let l = k .lengths in
+        let after-same : SameLengths (e .after) m₀ =
+        record { same-ram = l .same-ram ∙ same .same-ram; same-flash = l .same-flash ∙ same .same-flash; same-work = l .same-work ∙ same .same-work } in
+        ends-held reason opcode (e .ending) m (e .after) (rw (l .same-ram, l .same-flash, l .same-work) fit) after-same (l .same-ram) (l .same-work) (k .fine)
 
-  first-sound : (why : ℕ) → Sound (state first why m)
-  first-sound why = at first m fit (omega arith)
+    refuses-held : (why : ℕ) → Held m₀ (refuses reason m why)
+    refuses-held why = at Refusal why m fit same tt
 
-  headed-sound : (known : Lookup) (n : ℕ) → Sound (headed reason m known n)
-  headed-sound Unknown n = refuses-sound 11
-  headed-sound (Known opcode) n =
-      in-cond Sound (not (hasLength opcode n)) _ _ (λ e. refuses-sound 12) (λ e.
-      in-cond Sound (ltb (length (m .work)) n) _ _ (λ f. refuses-sound 13) (λ f.
-      at (Command opcode n SendAck) m fit (record { has-length = not-false _ e; in-work = ltb-false _ _ f }, tt)))
+    first-held : (why : ℕ) → Held m₀ (state first why m)
+    first-held why = at first why m fit same (omega arith)
 
-  header-sound : (Good : ℕ → Type 0) (s : State) (step : HeaderStep) → Leaves Good (λ _ t. Sound t) [] s (header reason m step)
-  header-sound Good s TakeSoh = λ b g. at (Header (cond (eqb b 1) TakeOpcode TakeSoh)) m fit tt
-  header-sound Good s TakeOpcode = λ b g. at (Header (TakeLow b)) m fit tt
-  header-sound Good s (TakeLow opcode) = λ b g. at (Header (TakeHigh opcode b)) m fit tt
-  header-sound Good s (TakeHigh opcode low) = λ b g. headed-sound (opcodeOf opcode) (low + 256 * b)
+    on : (step : Step) → SoundStep (length (m .ram)) (length (m .work)) step → Held m₀ (goes reason m step)
+    on step h = at step reason m fit same h
 
-  arrived-sound : (opcode : Opcode) (n count : ℕ) → Carried opcode n (length (m .work)) → 0 < n → Sound (arrived reason m opcode n count)
-  arrived-sound opcode n count c some =
-      in-cond Sound (ltb count n) _ _ (λ e. at (Command opcode n (TakePayload count)) m fit (c, ltb-true _ _ e))
-      (λ e. in-cond Sound (eqb (checked (commandOf opcode n (m .work)) m) 0) _ _ (λ f. at (Command opcode n SendPayloadAck) m fit (c, some))
-      (λ f. refuses-sound (checked (commandOf opcode n (m .work)) m)))
+    headed-held : (known : Lookup) (n : ℕ) → Held m₀ (headed reason m known n)
+    headed-held Unknown n = refuses-held 11
+    headed-held (Known opcode) n =
+        in-cond (Held m₀) (not (hasLength opcode n)) _ _ (λ e. refuses-held 12) (λ e.
+        in-cond (Held m₀) (ltb (length (m .work)) n) _ _ (λ f. refuses-held 13) (λ f.
+        on (Command opcode n SendAck) (record { has-length = not-false _ e; in-work = ltb-false _ _ f }, tt)))
 
-  answer-sound : (Good : ℕ → Type 0) (s : State) (opcode : Opcode) (n : ℕ) (step : AnswerStep) → SoundStep (length (m .ram)) (length (m .work)) (Answer opcode n step) →
-      Leaves Good (λ _ t. Sound t) [] s (answer reason m opcode n step)
-  answer-sound Good s opcode n a.SendLengthLow h = at (Answer opcode n a.SendLengthHigh) m fit (h .0, tt)
-  answer-sound Good s opcode n a.SendLengthHigh h = at (Answer opcode n a.TakeGo) m fit (h .0, tt)
-  answer-sound Good s opcode n a.TakeGo h = λ b g. in-cond Sound (eqb b ack) _ _ (λ e. at (Answer opcode n (a.SendAnswer 0)) m fit (h .0, h .0 .some)) (λ e. first-sound 20)
-  answer-sound Good s opcode n (a.SendAnswer place) h =
-      at (showed opcode n (place + 1)) m fit (h .0, in-cond (SoundAnswer n) (ltb (place + 1) n) (a.SendAnswer (place + 1)) a.TakeCrcLow (λ e. ltb-true _ _ e) (λ e. tt))
-  answer-sound Good s opcode n a.TakeCrcLow h = λ b g. at (Answer opcode n (a.TakeCrcHigh b)) m fit (h .0, tt)
-  answer-sound Good s opcode n (a.TakeCrcHigh low) h = λ b g. in-cond Sound (eqb (low + 256 * b) (crc16 n (m .work))) _ _ (λ e. at (Answer opcode n a.SendAck) m fit (h .0, tt)) (λ e. refuses-sound 19)
-  answer-sound Good s opcode n a.SendAck h = first-sound reason
+    arrived-held : (opcode : Opcode) (n count : ℕ) → Carried opcode n (length (m .work)) → 0 < n → Held m₀ (arrived reason m opcode n count)
+    arrived-held opcode n count c some =
+        let why = checked (commandOf opcode n (m .work)) m in
+        in-cond (Held m₀) (ltb count n) _ _ (λ e. on (Command opcode n (TakePayload count)) (c, ltb-true _ _ e)) (λ e.
+        in-cond (Held m₀) (eqb why 0) _ _ (λ f. on (Command opcode n SendPayloadAck) (c, some)) (λ f. refuses-held why))
 
--- a payload byte keeps the lengths
-stored-lengths : (place b : ℕ) (m : Memories) → Fits m →
-    let m′ = stored place b m in Fits m′
-stored-lengths place b m fit = rw (length-set (m .work) place b) fit
+  module _ (Good : ℕ → Type 0) (s : State) (reason : ℕ) (m : Memories) (fit : Fits m) (same : SameLengths m m₀) where
+    abbrev Stays : Does ℕ State → Type 0
+    Stays d = Leaves Good (λ _ t. Held m₀ t) [] s d
 
-command-sound : (Good : ℕ → Type 0) (s : State) (reason : ℕ) (m : Memories) (opcode : Opcode) (n : ℕ) (step : CommandStep) → Ready (Command opcode n step) m →
-    Leaves Good (λ _ t. Sound t) [] s (command reason m opcode n step)
-command-sound Good s reason m opcode n SendAck h =
-    in-cond Sound (eqb n 0) _ _ (λ e. executes-sound reason m opcode n (h .fitting))
-    (λ e. at (Command opcode n (TakePayload 0)) m (h .fitting) (h .step-sound .0, omega (arith, eqb-false n 0 e)))
-command-sound Good s reason m opcode n (TakePayload place) h =
-    λ b g.
-    let w = length-set (m .work) place b in
-    arrived-sound reason (stored place b m) (stored-lengths place b m (h .fitting)) opcode n (place + 1) (rw w (h .step-sound .0)) (omega (arith, h .step-sound .1))
-command-sound Good s reason m opcode n SendPayloadAck h = at (Command opcode n SendCrcLow) m (h .fitting) (h .step-sound)
-command-sound Good s reason m opcode n SendCrcLow h = at (Command opcode n SendCrcHigh) m (h .fitting) (h .step-sound)
-command-sound Good s reason m opcode n SendCrcHigh h = at (Command opcode n TakeGo) m (h .fitting) (h .step-sound)
-command-sound Good s reason m opcode n TakeGo h = λ b g. in-cond Sound (eqb b ack) _ _ (λ e. executes-sound reason m opcode n (h .fitting)) (λ e. first-sound reason m (h .fitting) 20)
+    header-held : (step : HeaderStep) → Stays (header reason m step)
+    header-held TakeSoh = λ b g. on reason m fit same (Header (cond (eqb b 1) TakeOpcode TakeSoh)) tt
+    header-held TakeOpcode = λ b g. on reason m fit same (Header (TakeLow b)) tt
+    header-held (TakeLow opcode) = λ b g. on reason m fit same (Header (TakeHigh opcode b)) tt
+    header-held (TakeHigh opcode low) = λ b g. headed-held reason m fit same (opcodeOf opcode) (low + 256 * b)
 
-pub does-sound : (Good : ℕ → Type 0) (s : State) (reason : ℕ) (m : Memories) (step : Step) → Ready step m → Leaves Good (λ _ t. Sound t) [] s (doesAt reason m step)
-does-sound Good s reason m (Greeting place) h =
-    let next = cond (ltb (place + 1) 4) (Greeting (place + 1)) (Header TakeSoh) in
-    at next m (h .fitting) (in-cond (SoundStep (length (m .ram)) (length (m .work))) (ltb (place + 1) 4) (Greeting (place + 1)) (Header TakeSoh) (λ e. ltb-true _ _ e) (λ e. tt))
-does-sound Good s reason m (Header step) h = header-sound reason m (h .fitting) Good s step
-does-sound Good s reason m (Command opcode n step) h = command-sound Good s reason m opcode n step h
-does-sound Good s reason m (Answer opcode n step) h = answer-sound reason m (h .fitting) Good s opcode n step (h .step-sound)
-does-sound Good s reason m Refusal h = first-sound reason m (h .fitting) reason
-does-sound Good s reason m (Running address) h = tt
+    command-held : (opcode : Opcode) (n : ℕ) (step : CommandStep) → SoundStep (length (m .ram)) (length (m .work)) (Command opcode n step) →
+        Stays (command reason m opcode n step)
+    command-held opcode n SendAck h =
+        in-cond (Held m₀) (eqb n 0) _ _ (λ e. executes-held reason m fit same opcode n)
+        (λ e. on reason m fit same (Command opcode n (TakePayload 0)) (h .0, omega (arith, eqb-false n 0 e)))
+    command-held opcode n (TakePayload place) h =
+        λ b g.
+        let w = length-set (m .work) place b in
+        let stored-same : SameLengths (stored place b m) m₀ =
+        record { same-ram = same .same-ram; same-flash = same .same-flash; same-work = w ∙ same .same-work } in
+        arrived-held reason (stored place b m) (rw w fit) stored-same opcode n (place + 1) (rw w (h .0)) (omega (arith, h .1))
+    command-held opcode n SendPayloadAck h = on reason m fit same (Command opcode n SendCrcLow) h
+    command-held opcode n SendCrcLow h = on reason m fit same (Command opcode n SendCrcHigh) h
+    command-held opcode n SendCrcHigh h = on reason m fit same (Command opcode n TakeGo) h
+    command-held opcode n TakeGo h =
+        λ b g. in-cond (Held m₀) (eqb b ack) _ _ (λ e. executes-held reason m fit same opcode n) (λ e. first-held reason m fit same 20)
+
+    answer-held : (opcode : Opcode) (n : ℕ) (step : AnswerStep) → SoundStep (length (m .ram)) (length (m .work)) (Answer opcode n step) →
+        Stays (answer reason m opcode n step)
+    answer-held opcode n a.SendLengthLow h = on reason m fit same (Answer opcode n a.SendLengthHigh) (h .0, tt)
+    answer-held opcode n a.SendLengthHigh h = on reason m fit same (Answer opcode n a.TakeGo) (h .0, tt)
+    answer-held opcode n a.TakeGo h =
+        λ b g. in-cond (Held m₀) (eqb b ack) _ _ (λ e. on reason m fit same (Answer opcode n (a.SendAnswer 0)) (h .0, h .0 .some))
+        (λ e. first-held reason m fit same 20)
+    answer-held opcode n (a.SendAnswer place) h =
+        let more = in-cond (SoundAnswer n) (ltb (place + 1) n) (a.SendAnswer (place + 1)) a.TakeCrcLow (λ e. ltb-true _ _ e) (λ e. tt) in
+        on reason m fit same (showed opcode n (place + 1)) (h .0, more)
+    answer-held opcode n a.TakeCrcLow h = λ b g. on reason m fit same (Answer opcode n (a.TakeCrcHigh b)) (h .0, tt)
+    answer-held opcode n (a.TakeCrcHigh low) h =
+        λ b g. in-cond (Held m₀) (eqb (low + 256 * b) (crc16 n (m .work))) _ _ (λ e. on reason m fit same (Answer opcode n a.SendAck) (h .0, tt))
+        (λ e. refuses-held reason m fit same 19)
+    answer-held opcode n a.SendAck h = first-held reason m fit same reason
+
+    does-held : (step : Step) → SoundStep (length (m .ram)) (length (m .work)) step → Stays (doesAt reason m step)
+    does-held (Greeting place) h =
+        let next = cond (ltb (place + 1) 4) (Greeting (place + 1)) (Header TakeSoh) in
+        let more =
+        in-cond (SoundStep (length (m .ram)) (length (m .work))) (ltb (place + 1) 4) (Greeting (place + 1)) (Header TakeSoh) (λ e. ltb-true _ _ e) (λ e. tt) in
+        on reason m fit same next more
+    does-held (Header step) h = header-held step
+    does-held (Command opcode n step) h = command-held opcode n step h
+    does-held (Answer opcode n step) h = answer-held opcode n step h
+    does-held Refusal h = first-held reason m fit same reason
+    does-held (Running address) h = tt
+
+  pub stays-held : (Good : ℕ → Type 0) (s : State) → Held m₀ s → Leaves Good (λ _ t. Held m₀ t) [] s (does s)
+  stays-held Good s h = does-held Good s (s .reason) (s .mem) (h .ready .fitting) (h .same) (s .step) (h .ready .step-sound)

@@ -1,0 +1,4 @@
+pub mod Record
+pub mod Session
+pub mod History
+pub mod Reach

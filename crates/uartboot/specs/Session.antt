@@ -1,0 +1,42 @@
+-- The session: a call on a record, input, reply and the memories (01, "Memories and the record" and "Numbers given back": call
+-- refusals 1, 2, 3 and 4).
+-- Assumes nothing.
+use Prim.Native.Nat.{ℕ}
+use mathlib.Core.Bool.{cond, not}
+use mathlib.Core.List.{List}
+use lib.ListN.{length}
+use Rattle.wire.specs.Length.{isWorkLength, badWork, isRamLength, badRam, isFlashLength, badFlash}
+use Rattle.machine.specs.Session.{Read, sound, unsound, Session, Answer}
+use Rattle.machine.specs.declared.Report.{Report}
+use Rattle.command.specs.Memories.{Memories}
+use Rattle.uartboot_flow.specs.State.{State, state}
+use Rattle.uartboot_flow.specs.Due.{device}
+use Rattle.uartboot.specs.declared.record.Found.{Found}
+use Rattle.uartboot.specs.declared.record.Found.the-variants.{At, Unsound}
+use Rattle.uartboot.specs.Record.{written, decodedOf}
+
+-- lengths are tested in this order
+unfoldable pub refusalOf : (ram flash work : ℕ) → ℕ
+refusalOf ram flash work =
+    cond (not (isWorkLength work)) badWork
+    (cond (not (isRamLength ram)) badRam
+    (cond (not (isFlashLength flash)) badFlash
+    0))
+
+abbrev pub readOf : Found → (reason : ℕ) → Memories → Read State
+readOf (At step) reason m = sound (state step reason m)
+readOf Unsound reason m = unsound
+
+abbrev pub uartboot : Session Memories State
+uartboot =
+    record {
+      machine = device;
+      refusal = λ m. refusalOf (length (m .ram)) (length (m .flash)) (length (m .work));
+      read = λ r m. readOf (decodedOf (length (m .ram)) (length (m .work)) r) (r .reason) m;
+      write = λ s. written (s .step) (s .reason);
+      memories = λ s. s .mem;
+    }
+
+-- what a call gives back, with the reply and the memories after it
+abbrev pub answer : Report → (reply : List ℕ) → Memories → Answer Memories
+answer report reply m = record { report = report; reply = reply; memories = m }
