@@ -11,3 +11,4 @@ pub mod Records
 pub mod Shapes
 pub mod Doing
 pub mod Repeats
+pub mod Acknowledgements

@@ -17,7 +17,7 @@ use Rattle.machine.specs.Outcome.{Outcome, halt, acted, join}
 use Rattle.machine.specs.Call.{Call, offered, refused, act, call, calls}
 use Rattle.machine.specs.Uncut.{drainAt, drain, feed, uncut}
 use Rattle.machine.specs.History.{Event, Path, here, more, Came}
-use Rattle.machine.specs.Lawful.{Every, Kept, Lawful}
+use Rattle.machine.specs.Lawful.{Every, Kept, Lawful, Any}
 use Rattle.machine.specs.Claim.{Begins}
 use Rattle.machine.proofs.Outcomes.{join-assoc, halt-join, join-halt}
 use Rattle.machine.proofs.Actions.{drain-takes-none, uncut-act}
@@ -213,3 +213,8 @@ module _ {A S : Type 0} (m : Machine A S) {Good : A → Type 0} {Sound : S → T
       let drained = rw (halt-join start due) at (drain-came (m .due start) (halt start) at-start) in
       let same : drop (due .taken) stream ≡ stream = rw (drain-takes-none m (m .due start) (m .need start) start) refl in
       rw same at (feeds-all (suc (length stream)) due drained)
+
+-- any symbols are any
+pub all-any : {A : Type 0} (xs : List A) → Every Any xs
+all-any [] = tt
+all-any (x ∷ xs) = (tt, all-any xs)

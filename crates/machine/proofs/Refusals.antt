@@ -38,3 +38,10 @@ accepts {M} {S} σ r mem input reply e = cases (eqb (σ .refusal mem) 0) (λ t. 
     reads : eqb (σ .refusal mem) 0 ≡ true → (d : Read S) → σ .read r mem ≡ d → Accepts σ r mem input reply
     reads t (sound s) q = record { state = s; fits = eqb-true _ _ t; read-is = q; answer-is = rw (t, q) refl }
     reads t unsound q = absurd (let z : _≡_ {A = ℕ} 4 0 = rw (t, q) at e in omega arith)
+
+-- what is read stands for one state
+pub sound-same : {S : Type 0} (a b : S) → sound a ≡ sound b → a ≡ b
+sound-same a b e = cc
+
+pub never-sound : {S : Type 0} (s : S) → unsound ≡ sound s → ⊥
+never-sound s e = let z : _≡_ {A = ℕ} 0 1 = cc in omega arith

@@ -7,7 +7,7 @@ use mathlib.Core.Path.{_≡_, refl, ap, _∙_}
 use mathlib.Core.List.{List, [], _∷_}
 use lib.ListN.{length, getD, length-set}
 use Rattle.machine.specs.Machine.{Need, Machine, line}
-use Rattle.machine.specs.Lawful.{Kept, Lawful}
+use Rattle.machine.specs.Lawful.{Any, Kept, Lawful}
 use Rattle.machine.specs.Steps.{Takes, Sends}
 use Rattle.machine.specs.Steps as steps
 use Rattle.machine.proofs.Loops.{Reached, reached-take, reached-send}
@@ -31,7 +31,7 @@ module _ {S : Type 0} (need : S → Need) (took : S → ℕ → S) (byte : S →
         rw (add-suc j count, ← add-one (j + count), ← is) (reached-send need took byte sent due law (reached-sends r before) e h)
 
 -- what single actions keep, whatever the bytes, several keep
-module _ {S : Type 0} (m : Machine ℕ S) (P : S → Type 0) (kept : Kept m (λ (b : ℕ). Unit {0}) (λ _ s. P s)) where
+module _ {S : Type 0} (m : Machine ℕ S) (P : S → Type 0) (kept : Kept m Any (λ _ s. P s)) where
   pub takes-keep : {input : List ℕ} {i count : ℕ} {s t : S} → Takes m input i s count t → P s → P t
   takes-keep steps.none p = p
   takes-keep {input} {i} (steps.more {count} {t} before e h) p = kept [] t (getD input (i + count) 0 ∷ []) 1 1 e refl (tt, tt) (takes-keep before p)

@@ -12,6 +12,10 @@ abbrev pub Every : {A : Type 0} → (A → Type 0) → List A → Type 0
 Every Good [] = Unit {0}
 Every Good (a ∷ rest) = Good a × Every Good rest
 
+-- whatever the symbol
+abbrev pub Any : {A : Type 0} → A → Type 0
+Any a = Unit {0}
+
 -- an action goes on: it takes a symbol, or sends with nothing in view, or no action follows
 pub data Moves {A S : Type 0} (m : Machine A S) (s : S) (view : List A) (views takes : ℕ) : Type 0 where
   takes-one : 0 < takes → Moves m s view views takes

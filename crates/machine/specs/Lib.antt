@@ -5,6 +5,7 @@ pub mod Outcome
 pub mod Call
 pub mod Uncut
 pub mod History
+pub mod Acknowledged
 pub mod Lawful
 pub mod Claim
 pub mod Words

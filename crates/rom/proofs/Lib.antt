@@ -2,4 +2,4 @@ pub mod Turns
 pub mod Records
 pub mod Calls
 pub mod Reached
-pub mod Claims
+pub mod Faith

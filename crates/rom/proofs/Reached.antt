@@ -3,17 +3,17 @@
 use Prim.Native.Nat.{ℕ}
 use mathlib.Core.Path.{_≡_, refl, sym, ap, subst, _∙_}
 use mathlib.Core.Bool.{Bool, true, false, cond}
-use mathlib.Core.List.{List, [], _∷_}
+use mathlib.Core.List.{List}
 use native.Mathlib.Omega.{arith}
 use lib.ListN.{length}
 use Rattle.wire.specs.Length.{isRamLength}
 use Rattle.machine.specs.Call.{call}
-use Rattle.machine.specs.Lawful.{Every, Kept}
-use Rattle.machine.specs.Session.{sound, unsound, accepted, answerOf}
+use Rattle.machine.specs.Lawful.{Kept, Any}
+use Rattle.machine.specs.Session.{sound, accepted, answerOf}
 use Rattle.machine.specs.declared.Record.{Record}
 use Rattle.machine.proofs.Lines.{line-kept}
-use Rattle.machine.proofs.Paths.{call-keeps}
-use Rattle.machine.proofs.Refusals.{accepts}
+use Rattle.machine.proofs.Paths.{call-keeps, all-any}
+use Rattle.machine.proofs.Refusals.{accepts, sound-same, never-sound}
 use Rattle.rom.specs.declared.record.Decoded.{Decoded}
 use Rattle.rom.specs.declared.record.Decoded.the-variants as decoded
 use Rattle.rom_flow.specs.Ask.{askOf}
@@ -41,22 +41,13 @@ read-sound r ram s f e = go (decodedOf (length ram) r) refl
     go : (d : Decoded) → decodedOf (length ram) r ≡ d → Sound s × (length (s .ram) ≡ length ram)
     go (decoded.Sound kind step) q =
         let g : Sound (state kind step (r .reason) ram) = record { fits = f; step-sound = decoded-sound (length ram) r kind step q } in
-        let is : state kind step (r .reason) ram ≡ s = same (state kind step (r .reason) ram) s (rw q at e) in
+        let is : state kind step (r .reason) ram ≡ s = sound-same (state kind step (r .reason) ram) s (rw q at e) in
         (subst Sound is g, ap (λ (x : State). length (x .ram)) (sym is))
-      where
-        same : (a b : State) → sound a ≡ sound b → a ≡ b
-        same a b e = cc
-    go decoded.Unsound q = absurd (never s (rw q at e))
-      where
-        never : (s : State) → unsound ≡ sound s → ⊥
-        never s e = let z : _≡_ {A = ℕ} 0 1 = cc in omega arith
+    go decoded.Unsound q = absurd (never-sound s (rw q at e))
 
 -- what a call keeps: a sound state, and the RAM's length
 Holds : ℕ → State → Type 0
 Holds size s = Sound s × (length (s .ram) ≡ size)
-
-Any : ℕ → Type 0
-Any b = Unit {0}
 
 kept : (size : ℕ) → Kept receiver Any (λ _ s. Holds size s)
 unfolding Holds took
@@ -64,11 +55,6 @@ kept size =
     line-kept need took byte sent due is-line Any (λ _ s. Holds size s)
     (λ events s b e w h. (took-sound s b (h .0), stored-length (askOf (s .step)) b (s .ram) ∙ h .1))
     (λ events s e h. (sent-sound s (h .0), h .1))
-
-all-any : (xs : List ℕ) → Every Any xs
-unfolding Any
-all-any [] = tt
-all-any (x ∷ xs) = (tt, all-any xs)
 
 pub stays-accepted : StaysAccepted
 unfolding Holds answerOf accepted written

@@ -1,4 +1,4 @@
 pub mod Record
 pub mod Session
 pub mod Reach
-pub mod Claim
+pub mod Awaits

@@ -1,3 +1,6 @@
 pub mod Records
 pub mod Turns
 pub mod Calls
+pub mod Reached
+pub mod Histories
+pub mod Faith

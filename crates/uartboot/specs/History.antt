@@ -1,14 +1,13 @@
--- What the history of a session's actions says of it (01, "Demand 3": NAKed before execution; the host acknowledges a checksum).
+-- What the history of a session's actions says of it (01, "Demand 3": a command NAKed before execution, and the byte that
+-- acknowledges the checksum of a Run).
 -- Assumes nothing.
 use Prim.Native.Nat.{ℕ}
 use mathlib.Core.Path.{_≡_}
-use mathlib.Core.Bool.{Bool, true, false, cond, _&&_, _||_}
+use mathlib.Core.Bool.{Bool, true, false, cond, not, _&&_, _||_}
 use mathlib.Core.List.{List, [], _∷_}
-use lib.Dec.{eqb}
-use Rattle.wire.specs.Line.{soh, ack}
-use Rattle.machine.specs.Machine.{isRunning}
+use Rattle.wire.specs.Line.{soh}
 use Rattle.machine.specs.History.{Event}
-use Rattle.command.specs.declared.opcode.Opcode.{Opcode}
+use Rattle.machine.specs.Acknowledged.{tookByte}
 use Rattle.command.specs.Opcode.{isRun}
 use Rattle.command.specs.Memories.{Memories}
 use Rattle.uartboot_flow.specs.declared.step.Step.{Step}
@@ -19,11 +18,6 @@ use Rattle.uartboot_flow.specs.declared.step.CommandStep.{CommandStep}
 use Rattle.uartboot_flow.specs.declared.step.CommandStep.the-variants.{SendAck, TakePayload, SendPayloadAck, SendCrcLow, SendCrcHigh, TakeGo}
 use Rattle.uartboot_flow.specs.State.{State}
 use Rattle.uartboot_flow.specs.Due.{device}
-
--- the byte that was taken is this one
-abbrev pub tookByte : (byte : ℕ) (view : List ℕ) → Bool
-tookByte byte [] = false
-tookByte byte (taken ∷ view) = eqb taken byte
 
 -- the step that takes the byte behind the CRC of a Run's payload
 abbrev pub isGo : CommandStep → Bool
@@ -37,19 +31,13 @@ isGo TakeGo = true
 abbrev pub awaitsRun : Step → Bool
 awaitsRun (Greeting place) = false
 awaitsRun (Header step) = false
-awaitsRun (Command opcode length step) = isRun opcode && isGo step
+awaitsRun (Command opcode length step) = isGo step && isRun opcode
 awaitsRun (Answer opcode length step) = false
 awaitsRun Refusal = false
 awaitsRun (Running address) = false
 
--- the host has acknowledged the checksum of a Run
-abbrev pub acknowledged : List (Event ℕ State) → Bool
-acknowledged [] = false
-acknowledged (e ∷ events) = (awaitsRun (e .state .step) && tookByte ack (e .view)) || acknowledged events
-
--- code runs exactly then
-abbrev pub RunsExactly : List (Event ℕ State) → State → Type 0
-RunsExactly events s = isRunning (device .need s) ≡ acknowledged events
+abbrev pub awaits : State → Bool
+awaits s = awaitsRun (s .step)
 
 -- the step that takes the 01 with which a command begins
 abbrev pub isSoh : HeaderStep → Bool
@@ -66,7 +54,7 @@ awaitsCommand (Answer opcode length step) = false
 awaitsCommand Refusal = false
 awaitsCommand (Running address) = false
 
--- the steps that take a header, or a payload: a 15 behind one of them comes from step 1 or 2
+-- a command's steps that take its header, or its payload: a 15 behind one of them comes from step 1 or 2
 abbrev pub isPayload : CommandStep → Bool
 isPayload SendAck = false
 isPayload (TakePayload place) = true
@@ -77,7 +65,7 @@ isPayload TakeGo = false
 
 abbrev pub isEarly : Step → Bool
 isEarly (Greeting place) = false
-isEarly (Header step) = true
+isEarly (Header step) = not (isSoh step)
 isEarly (Command opcode length step) = isPayload step
 isEarly (Answer opcode length step) = false
 isEarly Refusal = false

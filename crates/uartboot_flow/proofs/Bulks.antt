@@ -4,9 +4,9 @@ use Prim.Native.Nat.{ℕ, zero, suc, _+_, _-_, _<_, _≤_, min}
 use native.Mathlib.Omega.{arith}
 use native.Mathlib.Nat.{add-zero, add-suc}
 use native.Mathlib.Numerals.{add-one}
-use mathlib.Core.Path.{_≡_, refl, sym, _∙_}
+use mathlib.Core.Path.{_≡_, refl}
 use mathlib.Core.List.{List}
-use lib.ListN.{length, take, drop, getD, set, length-drop, length-take}
+use lib.ListN.{length, take, drop, length-drop}
 use lib.Seq.{getD-drop, getD-take, length-take-le, paste, paste-zero, paste-suc}
 use borrow.Author.Tests.{lt-ltb}
 use Rattle.memory.specs.Copy.{Copied}
@@ -14,7 +14,7 @@ use Rattle.machine.specs.Steps.{Takes, Sends}
 use Rattle.machine.specs.Steps as steps
 use Rattle.machine.proofs.Repeats.{sends-length}
 use Rattle.command.specs.declared.opcode.Opcode.{Opcode}
-use Rattle.command.specs.Memories.{Memories, memories}
+use Rattle.command.specs.Memories.{memories}
 use Rattle.uartboot_flow.specs.declared.step.Step.the-variants.{Command, Answer}
 use Rattle.uartboot_flow.specs.declared.step.CommandStep.the-variants.{TakePayload}
 use Rattle.uartboot_flow.specs.declared.step.AnswerStep.the-variants.{SendAnswer}

@@ -21,7 +21,7 @@ use Rattle.uartboot_flow.specs.declared.step.CommandStep.{CommandStep}
 use Rattle.uartboot_flow.specs.declared.step.CommandStep.the-variants.{SendAck, TakePayload, SendPayloadAck, SendCrcLow, SendCrcHigh, TakeGo}
 use Rattle.uartboot_flow.specs.declared.step.AnswerStep.{AnswerStep}
 use Rattle.uartboot_flow.specs.declared.step.AnswerStep.the-variants as a
-use Rattle.uartboot_flow.specs.State.{State, state}
+use Rattle.uartboot_flow.specs.State.{state}
 use Rattle.uartboot_flow.specs.Flow.{ends, executes, goes, header, command, answer, doesAt}
 use Rattle.uartboot_flow.specs.Due.{dueBehind, dueAnswer, dueAt, due}
 use Rattle.uartboot_flow.specs.Sound.{Ready}

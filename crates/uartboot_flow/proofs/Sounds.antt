@@ -1,12 +1,12 @@
 -- Every action leaves a sound state, and memories of the same lengths.
 -- Assumes nothing.
-use Prim.Native.Nat.{ℕ, _+_, _*_, _≤_, _<_}
+use Prim.Native.Nat.{ℕ, _+_, _*_, _<_}
 use native.Mathlib.Omega.{arith}
 use mathlib.Core.Path.{_≡_, _∙_}
-use mathlib.Core.Bool.{Bool, true, false, cond, not}
-use mathlib.Core.List.{List, []}
+use mathlib.Core.Bool.{cond, not}
+use mathlib.Core.List.{[]}
 use lib.Dec.{eqb, ltb}
-use lib.ListN.{length, set, length-set}
+use lib.ListN.{length, length-set}
 use borrow.Author.Tests.{ltb-true, ltb-false, eqb-false, not-false}
 use Rattle.wire.specs.Line.{ack}
 use Rattle.wire.proofs.Tests.{in-cond}
@@ -19,9 +19,9 @@ use Rattle.command.specs.declared.execution.Ending.{Ending}
 use Rattle.command.specs.declared.execution.Ending.the-variants.{Silent, Answers, Runs, Failed}
 use Rattle.command.specs.Opcode.{opcodeOf, hasLength}
 use Rattle.command.specs.Payload.{Carried, commandOf}
-use Rattle.command.specs.Memories.{Memories, memories, Fitting, SameLengths}
+use Rattle.command.specs.Memories.{Memories, Fitting, SameLengths}
 use Rattle.command.specs.Execution.{executed, checked}
-use Rattle.command.proofs.Executions.{Fine, Kept, executed-keeps}
+use Rattle.command.proofs.Executions.{Fine, executed-keeps}
 use Rattle.uartboot_flow.specs.declared.step.Step.{Step}
 use Rattle.uartboot_flow.specs.declared.step.Step.the-variants.{Greeting, Header, Command, Answer, Refusal, Running}
 use Rattle.uartboot_flow.specs.declared.step.HeaderStep.{HeaderStep}
@@ -31,7 +31,7 @@ use Rattle.uartboot_flow.specs.declared.step.CommandStep.the-variants.{S
 use Rattle.uartboot_flow.specs.declared.step.AnswerStep.{AnswerStep}
 use Rattle.uartboot_flow.specs.declared.step.AnswerStep.the-variants as a
 use Rattle.uartboot_flow.specs.State.{State, state}
-use Rattle.uartboot_flow.specs.Flow.{crc16, first, goes, refuses, abandons, ends, executes, headed, header, checkedWith, arrived, stored, command, showed, hosted, answer, doesAt, does}
+use Rattle.uartboot_flow.specs.Flow.{crc16, first, goes, refuses, ends, executes, headed, header, arrived, stored, command, showed, answer, doesAt, does}
 use Rattle.uartboot_flow.specs.Sound.{SoundStep, SoundAnswer, Ready}
 
 abbrev Fits : Memories → Type 0

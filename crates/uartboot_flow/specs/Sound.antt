@@ -6,7 +6,6 @@ use mathlib.Core.Bool.{true}
 use lib.ListN.{length}
 use Rattle.wire.specs.Range.{liesIn}
 use Rattle.wire.specs.Unit.{ramBase}
-use Rattle.command.specs.declared.opcode.Opcode.{Opcode}
 use Rattle.command.specs.Payload.{Carried}
 use Rattle.command.specs.Memories.{Memories, Fitting}
 use Rattle.command.specs.Execution.{Answering}

@@ -1,9 +1,8 @@
--- The claim about a whole list of calls to one receiver.
+-- What the receiver keeps to, so that its lists of calls follow its definition: code runs exactly when its checksum is acknowledged.
 -- Assumes nothing.
 use Prim.Native.Nat.{ℕ, _+_, _*_}
-use native.Mathlib.Omega.{arith}
 use mathlib.Core.Path.{_≡_, refl, sym, _∙_}
-use mathlib.Core.Bool.{Bool, true, false, cond, _&&_, _||_, and-false}
+use mathlib.Core.Bool.{Bool, true, false, cond, _&&_, and-false}
 use mathlib.Core.List.{List, [], _∷_}
 use lib.Dec.{eqb, leb, ltb}
 use lib.ListN.{length}
@@ -11,11 +10,12 @@ use Rattle.wire.specs.Length.{isRamLength}
 use Rattle.wire.specs.Line.{soh, ack}
 use Rattle.wire.proofs.Tests.{in-cond}
 use Rattle.machine.specs.Machine as machine
-use Rattle.machine.specs.Machine.{Need, acts, isRunning}
+use Rattle.machine.specs.Machine.{isRunning}
 use Rattle.machine.specs.History.{Event}
+use Rattle.machine.specs.Acknowledged.{RunsExactly}
 use Rattle.machine.specs.SessionLaws.{Byte, Faithful}
+use Rattle.machine.proofs.Acknowledgements.{runs-on}
 use Rattle.machine.proofs.Lines.{line-one, line-speaks, line-kept}
-use Rattle.machine.proofs.Sessions.{session-claim, made-claim}
 use Rattle.rom_flow.specs.declared.kind.Kind.{Kind}
 use Rattle.rom_flow.specs.declared.kind.Kind.the-variants.{P, E}
 use Rattle.rom_flow.specs.declared.step.Step.{Step}
@@ -23,11 +23,11 @@ use Rattle.rom_flow.specs.declared.step.Step.the-variants.{SendStx, TakeSoh, Ta
 use Rattle.rom_flow.specs.declared.step.Progress.{Progress}
 use Rattle.rom_flow.specs.Flow as flow
 use Rattle.rom_flow.specs.Ask.{askOf, needOf}
-use Rattle.rom_flow.specs.Receiver.{State, fresh, need, took, byte, sent, due}
+use Rattle.rom_flow.specs.Receiver.{State, fresh, need, took, byte, sent, due, receiver}
 use Rattle.rom.specs.Record.{written}
 use Rattle.rom.specs.Session.{rom}
 use Rattle.rom_flow.specs.Sound.{Sound}
-use Rattle.rom.specs.Claim.{awaitsAck, acknowledged, RunsExactly, RomClaim, RomMadeClaim}
+use Rattle.rom.specs.Awaits.{awaitsAck, awaits}
 use Rattle.rom_flow.proofs.Laws.{is-line, lawful}
 use Rattle.rom.proofs.Records.{reads-back}
 use Rattle.rom.proofs.Reached.{ram-fits}
@@ -87,30 +87,18 @@ sent-runs (TakeAck n) e = refl
 sent-runs SendNak e = refl
 sent-runs Running e = cc
 
--- who still takes or sends is not running
-acts-waits : (n : Need) → (n ≡ machine.runs → ⊥) → isRunning n ≡ false
-acts-waits (acts views takes) h = refl
-acts-waits machine.runs h = absurd (h refl)
-
-or-false : (a b : Bool) → b ≡ false → (a || b) ≡ a
-or-false true b e = refl
-or-false false b e = e
-
-runs-taken : (events : List (Event ℕ State)) (s : State) (b : ℕ) → needOf (askOf (s .step)) ≡ machine.take → Byte b → RunsExactly events s →
-    RunsExactly (record { state = s; view = b ∷ [] } ∷ events) (took s b)
+runs-taken : (events : List (Event ℕ State)) (s : State) (b : ℕ) → needOf (askOf (s .step)) ≡ machine.take → Byte b → RunsExactly awaits receiver events s →
+    RunsExactly awaits receiver (record { state = s; view = b ∷ [] } ∷ events) (took s b)
 unfolding took
 runs-taken events s b e w h =
-    let none : acknowledged events ≡ false = sym h ∙ acts-waits (need s) (λ q. let z : _≡_ {A = ℕ} 0 1 = cc in omega arith) in
-    took-runs (s .kind) (length (s .ram)) (s .step) (s .reason) b e
-    ∙ sym (or-false (awaitsAck (s .step) && eqb b ack) (acknowledged events) none)
+    runs-on awaits receiver events s (took s b) (b ∷ []) 1 1 e h (took-runs (s .kind) (length (s .ram)) (s .step) (s .reason) b e)
 
-runs-sent : (events : List (Event ℕ State)) (s : State) → needOf (askOf (s .step)) ≡ machine.send → RunsExactly events s →
-    RunsExactly (record { state = s; view = [] } ∷ events) (sent s)
-runs-sent events s e h =
-    let none : acknowledged events ≡ false = sym h ∙ acts-waits (need s) (λ q. let z : _≡_ {A = ℕ} 0 1 = cc in omega arith) in
-    sent-runs (s .step) e ∙ sym (or-false (awaitsAck (s .step) && false) (acknowledged events) none ∙ and-false (awaitsAck (s .step)))
+runs-sent : (events : List (Event ℕ State)) (s : State) → needOf (askOf (s .step)) ≡ machine.send → RunsExactly awaits receiver events s →
+    RunsExactly awaits receiver (record { state = s; view = [] } ∷ events) (sent s)
+runs-sent events s e h = runs-on awaits receiver events s (sent s) [] 0 0 e h (sent-runs (s .step) e ∙ sym (and-false (awaitsAck (s .step))))
 
-faithful : (kind : Kind) → Faithful rom (fresh kind) Sound RunsExactly
+-- the receiver's lists of calls follow its definition
+pub faithful : (kind : Kind) → Faithful rom (fresh kind) Sound (RunsExactly awaits receiver)
 unfolding written
 faithful kind =
     record {
@@ -122,12 +110,5 @@ faithful kind =
       fits = λ s g. rw (g .fits) refl;
       reads-back = λ s g. rw (reads-back (s .kind) (length (s .ram)) (s .step) (s .reason) (g .step-sound)) refl;
       at-first = λ ram e. refl;
-      kept = line-kept need took byte sent due is-line Byte RunsExactly runs-taken runs-sent;
+      kept = line-kept need took byte sent due is-line Byte (RunsExactly awaits receiver) runs-taken runs-sent;
     }
-
--- the claim, for both kinds
-pub rom-claim : RomClaim
-rom-claim kind = session-claim rom (faithful kind) (λ events s h. h)
-
-pub rom-made-claim : RomMadeClaim
-rom-made-claim kind = made-claim rom (faithful kind) (λ events s h. h)

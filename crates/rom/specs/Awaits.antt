@@ -1,0 +1,24 @@
+-- Where a receiver takes the byte for its checksum (01, "Demand 3": after the ROM's XOR).
+-- Assumes nothing.
+use mathlib.Core.Bool.{Bool, true, false}
+use Rattle.rom_flow.specs.declared.step.Step.{Step}
+use Rattle.rom_flow.specs.declared.step.Step.the-variants.{SendStx, TakeSoh, TakeLow, TakeHigh, TakeExtendedLow, TakeExtendedHigh, SendAck, TakeCode, SendXor, TakeAck, SendNak, Running}
+use Rattle.rom_flow.specs.Receiver.{State}
+
+-- the step that takes the byte after the XOR
+abbrev pub awaitsAck : Step → Bool
+awaitsAck (TakeAck length) = true
+awaitsAck SendStx = false
+awaitsAck TakeSoh = false
+awaitsAck TakeLow = false
+awaitsAck (TakeHigh low) = false
+awaitsAck TakeExtendedLow = false
+awaitsAck (TakeExtendedHigh low) = false
+awaitsAck (SendAck length) = false
+awaitsAck (TakeCode length place) = false
+awaitsAck (SendXor length) = false
+awaitsAck SendNak = false
+awaitsAck Running = false
+
+abbrev pub awaits : State → Bool
+awaits s = awaitsAck (s .step)

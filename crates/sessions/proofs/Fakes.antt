@@ -1,0 +1,107 @@
+-- The definition shuts out the fakes, by what it gives for a few calls.
+-- Assumes nothing.
+use Prim.Native.Nat.{ℕ}
+use native.Mathlib.Omega.{arith}
+use mathlib.Core.Path.{_≡_, refl, sym, ap, _∙_}
+use mathlib.Core.List.{List, [], _∷_}
+use lib.ListN.{length, take, replicate}
+use Rattle.machine.specs.Call.{act, call}
+use Rattle.machine.specs.Uncut.{drain, feed, uncut}
+use Rattle.machine.specs.Session.{Answer, accepted, answerOf}
+use Rattle.machine.specs.declared.Record.{Record}
+use Rattle.wire.specs.Number.{numberAt}
+use Rattle.wire.specs.Range.{liesIn}
+use Rattle.wire.specs.Length.{isBetween, isFlashLength}
+use Rattle.rom_flow.specs.Receiver as receiver
+use Rattle.rom.specs.Record as rom-record
+use Rattle.command.specs.Demand.{judged}
+use Rattle.command.specs.Execution.{executed}
+use Rattle.command.specs.Opcode.{opcodeOf}
+use Rattle.uartboot.specs.Record as device-record
+use Rattle.uartboot.specs.Session as device-session
+use Rattle.sessions.specs.Kind.{Kind, romP, romE, uartboot, MemoriesOf, sessionOf, freshOf}
+use Rattle.sessions.specs.Fakes.{small, NobodyFakes}
+
+-- memories of an accepted length, and a first call on them with room for 16 bytes
+abbrev sample : (kind : Kind) → MemoriesOf kind
+sample romP = 0x00 ∷ []
+sample romE = 0x00 ∷ []
+sample uartboot = small
+
+abbrev start : (kind : Kind) → Record
+start kind = sessionOf kind .write (freshOf kind (sample kind))
+
+abbrev room : List ℕ
+room = replicate 16 0x00
+
+abbrev firstCall : (kind : Kind) (input : List ℕ) → Answer (MemoriesOf kind)
+firstCall kind input = answerOf (sessionOf kind) (start kind) (sample kind) input room
+
+-- a stream that is refused
+abbrev refusedStream : Kind → List ℕ
+refusedStream romP = 0x00 ∷ []
+refusedStream romE = 0x00 ∷ []
+refusedStream uartboot = 0x01 ∷ 0x04 ∷ 0x07 ∷ 0x00 ∷ []
+
+abbrev greetingLength : Kind → ℕ
+greetingLength romP = 1
+greetingLength romE = 1
+greetingLength uartboot = 4
+
+abbrev refusedLength : Kind → ℕ
+refusedLength romP = 3
+refusedLength romE = 3
+refusedLength uartboot = 9
+
+first-accepted : (kind : Kind) → firstCall kind [] .report .number ≡ 0
+unfolding answerOf accepted rom-record.written rom-record.decodedOf rom-record.stepIn isBetween isFlashLength device-record.written device-record.decodedOf device-record.stepIn device-session.refusalOf
+first-accepted romP = refl
+first-accepted romE = refl
+first-accepted uartboot = refl
+
+first-sent : (kind : Kind) → firstCall kind [] .report .sent ≡ greetingLength kind
+unfolding answerOf accepted act call receiver.took rom-record.written rom-record.decodedOf rom-record.stepIn isBetween isFlashLength device-record.written device-record.decodedOf device-record.stepIn device-session.refusalOf
+first-sent romP = refl
+first-sent romE = refl
+first-sent uartboot = refl
+
+bytes-sent : (kind : Kind) → (length (take (firstCall kind [] .report .sent) (firstCall kind [] .reply)) ≡ greetingLength kind)
+    × (length (take (firstCall kind (refusedStream kind) .report .sent) (firstCall kind (refusedStream kind) .reply)) ≡ refusedLength kind)
+unfolding answerOf accepted act call receiver.took rom-record.written rom-record.decodedOf rom-record.stepIn isBetween isFlashLength device-record.written device-record.decodedOf device-record.stepIn device-session.refusalOf opcodeOf
+bytes-sent romP = (refl, refl)
+bytes-sent romE = (refl, refl)
+bytes-sent uartboot = (refl, refl)
+
+differ : (kind : Kind) → greetingLength kind ≡ refusedLength kind → ⊥
+differ romP e = omega arith
+differ romE e = omega arith
+differ uartboot e = omega arith
+
+some : (kind : Kind) → greetingLength kind ≡ 0 → ⊥
+some romP e = omega arith
+some romE e = omega arith
+some uartboot e = omega arith
+
+-- how many bytes an answer shows
+abbrev shownBy : (kind : Kind) → Answer (MemoriesOf kind) → ℕ
+shownBy kind a = length (take (a .report .sent) (a .reply))
+
+pub nobody-fakes : NobodyFakes
+unfolding answerOf accepted drain feed uncut judged executed opcodeOf numberAt liesIn
+nobody-fakes =
+    record {
+      no-constant-refusal = λ kind f keeps refuses.
+          refuses (start kind) (sample kind) [] room (ap (λ (a : Answer (MemoriesOf kind)). a .report .number) (keeps (start kind) (sample kind) [] room) ∙ first-accepted kind);
+      no-constant-reply = λ kind f bytes keeps sends.
+          let one = ap length (sends (start kind) (sample kind) [] room refl) in
+          let two = ap length (sends (start kind) (sample kind) (refusedStream kind) room refl) in
+          differ kind
+          (sym (ap (shownBy kind) (keeps (start kind) (sample kind) [] room) ∙ bytes-sent kind .0) ∙ one
+          ∙ sym two ∙ ap (shownBy kind) (keeps (start kind) (sample kind) (refusedStream kind) room) ∙ bytes-sent kind .1);
+      no-idling = λ kind f keeps idles.
+          some kind (sym (ap (λ (a : Answer (MemoriesOf kind)). a .report .sent) (keeps (start kind) (sample kind) [] room) ∙ first-sent kind)
+          ∙ idles (start kind) (sample kind) [] room .1);
+      no-invented-counts = λ kind f keeps r mem s input reply fits reads.
+          rw (keeps r mem input reply) (simp (fits, reads) (refl, refl));
+      no-bare-acknowledgement = refl;
+    }

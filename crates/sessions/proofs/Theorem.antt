@@ -1,0 +1,32 @@
+-- Demand 3 holds, for all three kinds.
+-- Assumes nothing.
+use Prim.Native.Nat.{ℕ}
+use mathlib.Core.List.{List}
+use Rattle.machine.specs.History.{Event}
+use Rattle.machine.specs.SessionLaws.{Faithful}
+use Rattle.machine.proofs.Sessions.{session-claim, made-claim}
+use Rattle.rom_flow.specs.declared.kind.Kind.the-variants.{P, E}
+use Rattle.rom.proofs.Faith as rom
+use Rattle.uartboot.proofs.Faith as device-faith
+use Rattle.sessions.specs.Kind.{Kind, romP, romE, uartboot, StateOf, sessionOf, freshOf}
+use Rattle.sessions.specs.Demand3.{Told, Demand3}
+
+-- what a session keeps to, and that its invariant tells what is to be told
+record Follows (kind : Kind) : Type 1 where
+  Sound : StateOf kind → Type 0
+  Invariant : List (Event ℕ (StateOf kind)) → StateOf kind → Type 0
+  law : Faithful (sessionOf kind) (freshOf kind) Sound Invariant
+  tells : (events : List (Event ℕ (StateOf kind))) (s : StateOf kind) → Invariant events s → Told kind events s
+
+follows : (kind : Kind) → Follows kind
+follows romP = record { Sound = _; Invariant = _; law = rom.faithful P; tells = λ events s h. (h, tt) }
+follows romE = record { Sound = _; Invariant = _; law = rom.faithful E; tells = λ events s h. (h, tt) }
+follows uartboot = record { Sound = _; Invariant = _; law = device-faith.faithful; tells = device-faith.tells }
+
+pub demand-3 : (kind : Kind) → Demand3 kind
+demand-3 kind =
+    let f = follows kind in
+    record {
+      defined = session-claim (sessionOf kind) (f .law) (f .tells);
+      made = made-claim (sessionOf kind) (f .law) (f .tells);
+    }

@@ -1,0 +1,59 @@
+-- Sessions that demand 2's definition shuts out (01, "What nobody may fake").
+-- Assumes nothing.
+use Prim.Native.Nat.{ℕ}
+use mathlib.Core.Path.{_≡_}
+use mathlib.Core.List.{List, [], _∷_}
+use lib.ListN.{length, take, replicate}
+use Rattle.machine.specs.Call.{call}
+use Rattle.machine.specs.Session.{Answer, sound, answerOf}
+use Rattle.machine.specs.declared.Record.{Record}
+use Rattle.command.specs.Memories.{Memories, memories}
+use Rattle.sessions.specs.Kind.{Kind, uartboot, MemoriesOf, StateOf, sessionOf}
+use Rattle.sessions.specs.Definition.{definition}
+
+-- a session call's routine
+abbrev pub Routine : Kind → Type 0
+Routine kind = Record → MemoriesOf kind → (input reply : List ℕ) → Answer (MemoriesOf kind)
+
+-- it keeps the promise of the session's call
+abbrev pub Keeps : (kind : Kind) → Routine kind → Type 0
+Keeps kind f = (r : Record) (mem : MemoriesOf kind) (input reply : List ℕ) → f r mem input reply ≡ answerOf (sessionOf kind) r mem input reply
+
+abbrev pub AlwaysRefuses : (kind : Kind) → Routine kind → Type 0
+AlwaysRefuses kind f = (r : Record) (mem : MemoriesOf kind) (input reply : List ℕ) → f r mem input reply .report .number ≡ 0 → ⊥
+
+-- with room for 16 bytes it sends these, whatever comes
+abbrev pub AlwaysSends : (kind : Kind) → (bytes : List ℕ) → Routine kind → Type 0
+AlwaysSends kind bytes f =
+    (r : Record) (mem : MemoriesOf kind) (input reply : List ℕ) → length reply ≡ 16 →
+    take (f r mem input reply .report .sent) (f r mem input reply .reply) ≡ bytes
+
+-- it takes and sends nothing
+abbrev pub DoesNothing : (kind : Kind) → Routine kind → Type 0
+DoesNothing kind f =
+    (r : Record) (mem : MemoriesOf kind) (input reply : List ℕ) → (f r mem input reply .report .taken ≡ 0) × (f r mem input reply .report .sent ≡ 0)
+
+-- its counts are what it took and sent, by the definition of a call
+abbrev pub CountsAreTrue : (kind : Kind) → Routine kind → Type 0
+CountsAreTrue kind f =
+    (r : Record) (mem : MemoriesOf kind) (s : StateOf kind) (input reply : List ℕ) → sessionOf kind .refusal mem ≡ 0 → sessionOf kind .read r mem ≡ sound s →
+    let o = call (sessionOf kind .machine) s input (length reply) in
+    (f r mem input reply .report .taken ≡ o .taken) × (f r mem input reply .report .sent ≡ length (o .replies))
+
+-- a byte 11 written to RAM byte 0, then a byte 22 to RAM byte 1; each with the host's 06 behind its CRC
+abbrev pub twoWrites : List ℕ
+twoWrites =
+    0x01 ∷ 0x01 ∷ 0x05 ∷ 0x00 ∷ 0x00 ∷ 0x00 ∷ 0xFC ∷ 0x07 ∷ 0x11 ∷ 0x06
+    ∷ 0x01 ∷ 0x01 ∷ 0x05 ∷ 0x00 ∷ 0x01 ∷ 0x00 ∷ 0xFC ∷ 0x07 ∷ 0x22 ∷ 0x06 ∷ []
+
+-- memories of the smallest lengths but two bytes of RAM
+abbrev pub small : Memories
+small = memories (0x00 ∷ 0x00 ∷ []) (replicate 4096 0xFF) (replicate 64 0x00)
+
+pub record NobodyFakes : Type 0 where
+  pub no-constant-refusal : (kind : Kind) (f : Routine kind) → Keeps kind f → AlwaysRefuses kind f → ⊥
+  pub no-constant-reply : (kind : Kind) (f : Routine kind) (bytes : List ℕ) → Keeps kind f → AlwaysSends kind bytes f → ⊥
+  pub no-idling : (kind : Kind) (f : Routine kind) → Keeps kind f → DoesNothing kind f → ⊥
+  pub no-invented-counts : (kind : Kind) (f : Routine kind) → Keeps kind f → CountsAreTrue kind f
+  -- the second command is executed too
+  pub no-bare-acknowledgement : definition uartboot small twoWrites .memories .ram ≡ 0x11 ∷ 0x22 ∷ []

@@ -1,0 +1,55 @@
+-- The three kinds of session (01, "Demand 3": the kind, ROM P, ROM E or uartboot), each with its memories, its states and its flow.
+-- Assumes nothing.
+use Prim.Native.Nat.{ℕ}
+use mathlib.Core.Bool.{Bool}
+use mathlib.Core.List.{List}
+use Rattle.machine.specs.History.{Event}
+use Rattle.machine.specs.Session.{Session}
+use Rattle.rom_flow.specs.declared.kind.Kind.the-variants.{P, E}
+use Rattle.rom_flow.specs.Receiver as receiver
+use Rattle.rom.specs.Session.{rom}
+use Rattle.rom.specs.Awaits as rom-awaits
+use Rattle.command.specs.Memories.{Memories}
+use Rattle.uartboot_flow.specs.State as device
+use Rattle.uartboot_flow.specs.Fresh as device-fresh
+use Rattle.uartboot.specs.Session as device-session
+use Rattle.uartboot.specs.History as history
+
+pub data Kind : Type 0 where
+  romP : Kind
+  romE : Kind
+  uartboot : Kind
+
+-- RAM, flash and work buffer; for the ROM the RAM alone
+abbrev pub MemoriesOf : Kind → Type 0
+MemoriesOf romP = List ℕ
+MemoriesOf romE = List ℕ
+MemoriesOf uartboot = Memories
+
+abbrev pub StateOf : Kind → Type 0
+StateOf romP = receiver.State
+StateOf romE = receiver.State
+StateOf uartboot = device.State
+
+abbrev pub sessionOf : (kind : Kind) → Session (MemoriesOf kind) (StateOf kind)
+sessionOf romP = rom
+sessionOf romE = rom
+sessionOf uartboot = device-session.uartboot
+
+-- the flow's first step with last reason 0
+abbrev pub freshOf : (kind : Kind) → MemoriesOf kind → StateOf kind
+freshOf romP = receiver.fresh P
+freshOf romE = receiver.fresh E
+freshOf uartboot = device-fresh.fresh
+
+-- the flow takes the byte for a checksum: after the ROM's XOR, or after the CRC of a Run's payload
+abbrev pub awaitsOf : (kind : Kind) → StateOf kind → Bool
+awaitsOf romP = rom-awaits.awaits
+awaitsOf romE = rom-awaits.awaits
+awaitsOf uartboot = history.awaits
+
+-- a command NAKed before execution has left RAM and flash as they were at its 01, until the next command; the ROM has no commands
+abbrev pub NakedUnchanged : (kind : Kind) → List (Event ℕ (StateOf kind)) → StateOf kind → Type 0
+NakedUnchanged romP events s = Unit {0}
+NakedUnchanged romE events s = Unit {0}
+NakedUnchanged uartboot events s = history.Unchanged events s

@@ -1,0 +1,4 @@
+pub mod Kind
+pub mod Definition
+pub mod Demand3
+pub mod Fakes
