@@ -1,7 +1,9 @@
 -- What C gets of a session call: the report by value, the record in its eight words, and the lent slices.
 -- Assumes nothing.
 use Prim.Native.Nat.{ℕ}
+use mathlib.Core.Bool.{cond}
 use mathlib.Core.List.{List}
+use lib.Dec.{eqb}
 use Rattle.machine.specs.Session.{Answer}
 use Rattle.machine.specs.Words.{wordsOf}
 use Rattle.machine.specs.declared.Report.{Report}
@@ -9,6 +11,10 @@ use Rattle.capi.specs.declared.Called.{Called}
 
 abbrev pub calledOf : Report → Called
 calledOf r = record { number = r .number; standing = r .standing; taken = r .taken; sent = r .sent }
+
+-- the words after a call: a refused call leaves them
+abbrev pub wordsAfter : Report → (words : List ℕ) → List ℕ
+wordsAfter r words = cond (eqb (r .number) 0) (wordsOf (r .session)) words
 
 -- over memories M
 pub record Given (M : Type 0) : Type 0 where

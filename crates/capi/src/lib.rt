@@ -7,9 +7,12 @@ ghost use Rattle.offer.specs.Offer.{offerOf};
 ghost use Rattle.machine.specs.Session.{answerOf};
 ghost use Rattle.machine.specs.Words.{recordOf, wordsOf};
 ghost use Rattle.rom.specs.Session.{freshRecord, rom};
+ghost use Rattle.command.specs.Memories.{memories};
+ghost use Rattle.uartboot_flow.specs.Fresh as uartbootFresh;
+ghost use Rattle.uartboot.specs.Session.{uartboot};
 ghost use Rattle.rom_flow.specs.declared.kind.Kind.the-variants.{P, E};
 ghost use Rattle.frame.specs.Frame.{written, framedOf};
-ghost use Rattle.capi.specs.Called.{calledOf, given, givenOf};
+ghost use Rattle.capi.specs.Called.{calledOf, wordsAfter, given, givenOf};
 use frame::Framed;
 use machine::Report;
 use machine::words::put;
@@ -18,6 +21,7 @@ use offer::Offered;
 use rom::session::Receiver;
 use rom_flow::kind::Kind;
 use slot::Selected;
+use uartboot_flow::kind::Uartboot;
 use version::order::Ordered;
 use version::rank::Ranked;
 
@@ -73,6 +77,18 @@ fn called_of(report: Report) -> Called
     }
 }
 
+// A call's report for C, its record into the words. A refused call doesn't write them.
+fn hand_back(report: Report, words: &mut [u32; 8]) -> Called
+    ensures { λ r. ⌜ r ≡ calledOf report ⌝ }
+    ensures { λ _. ⌜ now (words .exit) ≡ wordsAfter report (now (words .entry)) ⌝ }
+{
+    if report.number != 0 {
+        return called_of(report);
+    }
+    put(report.session, words);
+    called_of(report)
+}
+
 // A fresh record of a receiver: kind 0 is P, 1 is E; calls refuse any other.
 #[no_mangle]
 pub extern "C" fn und_rom_fresh(kind: u32, words: &mut [u32; 8])
@@ -81,7 +97,7 @@ pub extern "C" fn und_rom_fresh(kind: u32, words: &mut [u32; 8])
     put(Receiver::fresh(kind), words);
 }
 
-// A call to a receiver. A refused call doesn't write the record.
+// A call to a receiver.
 #[no_mangle]
 pub extern "C" fn und_rom_call(
     words: &mut [u32; 8],
@@ -93,11 +109,32 @@ pub extern "C" fn und_rom_call(
 {
     let old = *words;
     let report = rom::session::call(record_of(old), input, reply, ram);
-    if report.number != 0 {
-        return called_of(report);
-    }
-    put(report.session, words);
-    called_of(report)
+    hand_back(report, words)
+}
+
+// A fresh record of a uartboot session.
+#[no_mangle]
+pub extern "C" fn und_uartboot_fresh(words: &mut [u32; 8])
+    ensures { λ _. ⌜ now (words .exit) ≡ wordsOf uartbootFresh.freshRecord ⌝ }
+{
+    put(Uartboot::fresh(), words);
+}
+
+// A call to a uartboot session.
+#[no_mangle]
+pub extern "C" fn und_uartboot_call(
+    words: &mut [u32; 8],
+    input: &[u8],
+    reply: &mut [u8],
+    ram: &mut [u8],
+    flash: &mut [u8],
+    work: &mut [u8],
+) -> Called
+    ensures { λ r. ⌜ given r (now (words .exit)) (now (reply .exit)) (memories (now (ram .exit)) (now (flash .exit)) (now (work .exit))) ≡ givenOf (answerOf uartboot (recordOf (now (words .entry))) (memories (now (ram .entry)) (now (flash .entry)) (now (work .entry))) (now (input .entry)) (now (reply .entry))) ⌝ }
+{
+    let old = *words;
+    let report = uartboot::session::call(record_of(old), input, reply, ram, flash, work);
+    hand_back(report, words)
 }
 
 // The boot frame of a code for a receiver of kind P.

@@ -3,6 +3,8 @@
 use mathlib.Core.Path.{refl}
 use Rattle.crc.specs.Register.{leaving, moved, placed, afterBit, afterBits, afterByte, after}
 use Rattle.crc.specs.Crc.{crcOf}
+use Rattle.memory.specs.Flash.{erased}
+use Rattle.command.specs.Opcode.{opcodeOf}
 use Rattle.version.specs.Text.{isNumber, wellFormed}
 use Rattle.version.specs.Rank.{rankOf}
 use Rattle.version.specs.Order.{comparedFields, orderOf}
@@ -12,5 +14,5 @@ use Rattle.rom_flow.specs.Receiver.{took}
 use Rattle.figures.specs.ProvedSet.{AllHold, provedSet}
 
 pub proved-set : AllHold provedSet
-unfolding leaving moved placed afterBit afterBits afterByte after crcOf isNumber wellFormed rankOf comparedFields orderOf drain feed uncut xorOf took
-proved-set = (refl, (refl, (refl, (refl, (refl, (refl, (refl, (refl, (refl, (refl, (refl, (refl, (refl, tt)))))))))))))
+unfolding erased opcodeOf leaving moved placed afterBit afterBits afterByte after crcOf isNumber wellFormed rankOf comparedFields orderOf drain feed uncut xorOf took
+proved-set = (refl, (refl, (refl, (refl, (refl, (refl, (refl, (refl, (refl, (refl, (refl, (refl, (refl, (refl, (refl, (refl, tt))))))))))))))))

@@ -1,5 +1,4 @@
--- Figures of 01 that are marked * ("Figures on both sides"), as one table and one statement: those of versions, ids, the ROM receiver
--- and CRCs.
+-- The proved set: the figures of 01 that are marked * ("Figures on both sides"), as one table and one statement.
 -- Assumes nothing.
 use Prim.Native.Nat.{ℕ, _-_}
 use mathlib.Core.Path.{_≡_}
@@ -13,12 +12,17 @@ use Rattle.version.specs.Order.{orderOf}
 use Rattle.image.specs.declared.Image.the-variants.{Valid}
 use Rattle.slot.specs.Slot.{chosen}
 use Rattle.machine.specs.Uncut.{uncut}
-use Rattle.machine.specs.Listing.{definitionOf}
 use Rattle.rom_flow.specs.declared.kind.Kind.the-variants.{P, E}
 use Rattle.rom_flow.specs.declared.step.Step.the-variants.{TakeCode, Running}
 use Rattle.rom_flow.specs.Receiver.{fresh, receiver}
 use Rattle.rom.specs.Record.{written}
-use Rattle.rom.specs.Session.{rom}
+use Rattle.memory.specs.Flash.{burnt, blank, erased}
+use Rattle.command.specs.Memories.{Memories, memories}
+use Rattle.uartboot_flow.specs.declared.step.Step.the-variants.{Header}
+use Rattle.uartboot_flow.specs.declared.step.HeaderStep.the-variants as uartboot-step
+use Rattle.uartboot.specs.Record as uartboot-record
+use Rattle.sessions.specs.Kind.{romP, uartboot}
+use Rattle.sessions.specs.Definition.{definition}
 
 infix 10 _is_
 -- what a definition gives, and what 01 says
@@ -59,6 +63,10 @@ digits = 0x31 ∷ 0x32 ∷ 0x33 ∷ 0x34 ∷ 0x35 ∷ 0x36 ∷ 0x37 ∷ 0x38 ∷
 abbrev wholeRam : List ℕ
 wholeRam = replicate 131072 0
 
+-- a device with the smallest memories
+abbrev device : Memories
+device = memories (0x00 ∷ []) (replicate 4096 0xFF) (replicate 64 0x00)
+
 -- the images of the ids have one byte of code each
 abbrev pub provedSet : List Figure
 provedSet =
@@ -72,13 +80,22 @@ provedSet =
     ∷ (chosen (Valid 7 1) (Valid 7 1) is record { number = 0; slot = 1 })
     ∷ (uncut receiver (fresh E wholeRam) (0x01 ∷ 0x00 ∷ 0x00 ∷ 0x00 ∷ 0x00 ∷ []) .final .step is TakeCode 65536 0)
     ∷ (uncut receiver (fresh E wholeRam) (0x01 ∷ 0x00 ∷ 0x00 ∷ 0x01 ∷ 0x00 ∷ []) .final .step is TakeCode 65537 0)
-    ∷ (definitionOf rom (fresh P (replicate 4 0)) (0x01 ∷ 0x03 ∷ 0x00 ∷ 0x11 ∷ 0x22 ∷ 0x44 ∷ 0x06 ∷ []) is record {
+    ∷ (definition romP (replicate 4 0) (0x01 ∷ 0x03 ∷ 0x00 ∷ 0x11 ∷ 0x22 ∷ 0x44 ∷ 0x06 ∷ []) is record {
       replies = 0x02 ∷ 0x06 ∷ 0x77 ∷ [];
       taken = 7;
       sent = 3;
       session = written P Running 0;
       memories = 0x11 ∷ 0x22 ∷ 0x44 ∷ 0x00 ∷ [];
     })
+    ∷ (definition uartboot device (0x01 ∷ 0x04 ∷ 0x07 ∷ 0x00 ∷ []) is record {
+      replies = 0x02 ∷ 0x01 ∷ 0x00 ∷ 0x03 ∷ 0x15 ∷ 0x02 ∷ 0x01 ∷ 0x00 ∷ 0x03 ∷ [];
+      taken = 4;
+      sent = 9;
+      session = uartboot-record.written (Header uartboot-step.TakeSoh) 12;
+      memories = device;
+    })
+    ∷ (erased 4095 2 (replicate 12288 0x00) is (blank 8192 ++ replicate 4096 0x00))
+    ∷ (burnt (0x3C ∷ []) (0xF0 ∷ []) is (0x30 ∷ []))
     ∷ (crcOf rule16 digits is 0x29B1)
     ∷ (crcOf rule32 digits is 0xCBF4_3926)
     ∷ []

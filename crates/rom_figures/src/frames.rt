@@ -1,16 +1,16 @@
 // Boot frames.
-use crate::data::fill;
-use crate::data::store;
-use crate::row::last;
-use crate::row::number;
-use crate::row::part;
-use crate::row::piece;
-use crate::text::bytes;
-use crate::text::decimal;
-use crate::text::sums;
 use frame::Framed;
 use frame::frame;
 use rom_flow::kind::Kind;
+use rows::data::fill;
+use rows::data::store;
+use rows::row::last;
+use rows::row::number;
+use rows::row::part;
+use rows::row::piece;
+use rows::text::bytes;
+use rows::text::decimal;
+use rows::text::sums;
 
 fn framed(kind: usize, code: &[u8], output: &mut [u8]) -> Framed {
     if kind == 0 {

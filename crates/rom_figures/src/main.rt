@@ -1,16 +1,14 @@
 // Runs figures of the ROM receiver and of boot frames over the proved code. They are the rows of the file stdin beside src/; each is
 // written again with what the code answers, and that is held to the file stdout.
-mod data;
 mod frames;
-mod row;
 mod streams;
-mod text;
 
 ghost use Prim.Native.Nat.{_<_};
 ghost use lib.ListN.{length};
-use crate::row::piece;
-use crate::row::pieces;
 use libc::STDIN_FILENO;
+use rows::data::room;
+use rows::row::piece;
+use rows::row::pieces;
 use show::text;
 
 fn show_answer(row: &[u8], bytes: &mut [u8], memory: &mut [u8])
@@ -40,8 +38,8 @@ fn show_rows(rows: &[u8], bytes: &mut [u8], memory: &mut [u8]) {
 
 fn main() {
     let mut rows = io::large_buffer();
-    let mut bytes = data::room();
-    let mut memory = data::room();
+    let mut bytes = room();
+    let mut memory = room();
     let count = io::read_full(STDIN_FILENO, &mut rows);
     show_rows(&rows[0..count], &mut bytes, &mut memory);
 }

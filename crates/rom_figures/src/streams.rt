@@ -1,18 +1,18 @@
 // Streams of a host, and the calls that show them to a receiver.
-use crate::data::fill;
-use crate::data::store;
-use crate::row::least;
-use crate::row::number;
-use crate::row::part;
-use crate::row::piece;
-use crate::row::pieces;
-use crate::text::bytes;
-use crate::text::decimal;
-use crate::text::sums;
 use machine::Record;
 use machine::Report;
 use rom::session::Receiver;
 use rom::session::call;
+use rows::data::fill;
+use rows::data::store;
+use rows::row::least;
+use rows::row::number;
+use rows::row::part;
+use rows::row::piece;
+use rows::row::pieces;
+use rows::text::bytes;
+use rows::text::decimal;
+use rows::text::sums;
 use show::text;
 use std::num::wrapping_add_usize;
 

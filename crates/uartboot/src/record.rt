@@ -8,11 +8,11 @@ use command::opcode::has_length;
 use command::opcode::number_of;
 use command::opcode::opcode_of;
 use machine::Record;
+use uartboot_flow::kind::Uartboot;
 use uartboot_flow::step::AnswerStep;
 use uartboot_flow::step::CommandStep;
 use uartboot_flow::step::HeaderStep;
 use uartboot_flow::step::Step;
-use uartboot_flow::uartboot::Uartboot;
 use wire::range::Place;
 use wire::unit::RamAddress;
 
