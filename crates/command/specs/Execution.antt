@@ -21,7 +21,7 @@ use Rattle.command.specs.Payload.{writeData, directWriteData, commandOf}
 use Rattle.command.specs.Demand.{demandsOf, judged}
 use Rattle.command.specs.Memories.{Memories, memories, Fitting}
 
--- flash differs from what was stored there
+-- flash differs from the command's data
 abbrev pub verifyDiffers : ℕ
 verifyDiffers = 18
 
@@ -54,7 +54,7 @@ placeOf address = address .0 - ramBase
 abbrev pub version : List ℕ
 version = 0x30 ∷ 0x2E ∷ 0x30 ∷ 0x2E ∷ 0x30 ∷ 0x2E ∷ 0x33 ∷ []
 
--- a flash store's end: where verify is 1, the bytes must stand in flash; the store stays either way
+-- a Direct write's end: where verify is 1, the bytes must stand in flash; the store stays either way
 abbrev pub verified : (verify offset : ℕ) (bytes flash : List ℕ) → Ending
 verified verify offset bytes flash = cond (not (eqb verify 1) || stands bytes (drop offset flash)) Silent (Failed verifyDiffers)
 

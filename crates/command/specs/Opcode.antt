@@ -32,7 +32,7 @@ opcodeOf number =
     (cond (eqb number 0x12) (Known DirectWrite)
     Unknown))))))))
 
--- the payload lengths that an opcode has: those of its numbers, with data of 1 byte or more behind them
+-- the payload lengths that an opcode has: that of its numbers, and for Write and Direct write data of 1 byte or more after them
 abbrev pub hasLength : Opcode → (length : ℕ) → Bool
 hasLength Write length = leb 5 length
 hasLength Read length = eqb length 6

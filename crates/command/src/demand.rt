@@ -52,7 +52,7 @@ fn demand(
     }
 }
 
-// A command that names no range in a memory demands no byte of it.
+// What is tested of a command; one without a range in a memory demands no byte of it.
 fn demands_of(command: Command) -> Demands
     ensures { λ r. ⌜ r ≡ demandsOf command ⌝ }
 {

@@ -24,7 +24,7 @@ use wire::unit::FlashOffset;
 use wire::unit::RAM_BASE;
 use wire::unit::RamAddress;
 
-// The reason where flash differs from what was stored there.
+// The reason where flash differs from the command's data.
 pub const VERIFY_DIFFERS: u32 = 18;
 
 // How a command ends: without an answer, with an answer of so many bytes at the front of the work buffer, with code running at an
@@ -36,26 +36,26 @@ pub enum Ending {
     Failed(u32),
 }
 
-// Where an address lies in RAM.
-fn ram_place(address: RamAddress) -> usize
+// The index in RAM of an address that is not below its first.
+fn index_of(address: RamAddress) -> usize
     requires { ⌜ ramBase ≤ address .0 ⌝ }
     ensures { λ r. ⌜ r ≡ address .0 - ramBase ⌝ }
 {
     (address.0 - RAM_BASE) as usize
 }
 
-// Copies RAM bytes to flash; one of each unit.
+// Stores RAM bytes in flash, from an address to an offset.
 fn copy(from: RamAddress, count: u32, to: FlashOffset, ram: &[u8], flash: &mut [u8])
     requires { ⌜ (ramBase ≤ from .0) × (from .0 - ramBase + count ≤ length (now ram)) × (to .0 + count ≤ length (now flash)) ⌝ }
     ensures { λ _. ⌜ now (flash .exit) ≡ changedFrom (to .0) (burnt (partOf (from .0 - ramBase) count (now (ram .entry)))) (now (flash .entry)) ⌝ }
 {
-    let start = ram_place(from);
+    let start = index_of(from);
     let end = start + (count as usize);
     let offset = to.0 as usize;
     burn(&mut flash[offset..], &ram[start..end]);
 }
 
-// Answers with bytes of a memory, at the front of the work buffer.
+// Answers with bytes of a memory, or of a text, laid at the front of the work buffer.
 fn answer(from: &[u8], place: usize, count: u32, work: &mut [u8]) -> Ending
     requires { ⌜ (place + count ≤ length (now from)) × (count ≤ length (now work)) ⌝ }
     ensures { λ r. ⌜ (r ≡ Ending.Answers count) × (now (work .exit) ≡ laid (partOf place count (now (from .entry))) (now (work .entry))) ⌝ }
@@ -89,12 +89,12 @@ fn perform(command: Command, ram: &mut [u8], flash: &mut [u8], work: &mut [u8]) 
 {
     match command {
         Command::Write(address, n) => {
-            let start = ram_place(address);
+            let start = index_of(address);
             let end = (WRITE_DATA + n) as usize;
             lay(&mut ram[start..], &work[WRITE_DATA as usize..end]);
             Ending::Silent
         }
-        Command::Read(address, n) => answer(ram, ram_place(address), n, work),
+        Command::Read(address, n) => answer(ram, index_of(address), n, work),
         Command::Copy(address, n, offset) => {
             copy(address, n, offset, ram, flash);
             Ending::Silent

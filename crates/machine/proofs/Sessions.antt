@@ -136,6 +136,7 @@ module _ {M S : Type 0} (σ : Session M S) {fresh : M → S} {Sound : S → Type
             enough-room = λ shown reply r. took-all (take shown (drop (o .taken) stream)) reply (h .enough-room shown (length reply) r);
             reached = o .final;
             reached-is = (refl, refl);
+            reads-as = law .reads-back (o .final) (came-sound o c);
             history = c;
             told = λ events p. tells events (o .final) (path-keeps m (law .lawful) start stream (law .kept) w first p);
           }

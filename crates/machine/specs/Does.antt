@@ -16,7 +16,7 @@ module _ {A S : Type 0} where
   needOf (sends byte next) = machine.send
   needOf runs = machine.runs
 
-  -- who doesn't take, or send, stays
+  -- a state that doesn't take, or send, stays
   abbrev pub tookOf : Does A S → S → A → S
   tookOf (takes next) s a = next a
   tookOf (sends byte next) s a = s

@@ -7,7 +7,7 @@ use lib.ListN.{length, take, drop}
 use Rattle.machine.specs.History.{Event, Path, Came}
 use Rattle.machine.specs.Lawful.{Every}
 use Rattle.machine.specs.Claim.{Begins}
-use Rattle.machine.specs.Session.{Session, Answer, refused, answerOf}
+use Rattle.machine.specs.Session.{Session, Answer, sound, refused, answerOf}
 use Rattle.machine.specs.SessionLaws.{Byte}
 use Rattle.machine.specs.Listing.{Lent, Given, totals, answers, definitionOf, Made}
 
@@ -33,6 +33,7 @@ module _ {M S : Type 0} (σ : Session M S) (Told : List (Event ℕ S) → S → 
     -- the state that the list has come to, by actions of the machine, and what they say of it
     pub reached : S
     pub reached-is : (g .session ≡ σ .write reached) × (g .memories ≡ σ .memories reached)
+    pub reads-as : σ .read (g .session) (g .memories) ≡ sound reached
     pub history : Came (σ .machine) start stream (record { replies = g .replies; taken = g .taken; final = reached })
     pub told : (events : List (Event ℕ S)) →
         Path (σ .machine) start stream events (record { replies = g .replies; taken = g .taken; final = reached }) → Told events reached

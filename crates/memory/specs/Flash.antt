@@ -1,4 +1,4 @@
--- Flash (01, "Memories and the record": erase sets bytes to 0xFF, a flash store leaves old AND new; "uartboot session": Erase takes
+-- Flash (01, "Memories and the record": erase sets bytes to 0xFF, a flash store leaves old AND new; "uartboot session": Erase erases
 -- every 4,096-byte sector touching the area).
 -- Assumes nothing.
 use Prim.Native.Nat.{ℕ, _+_, _-_, _*_, _/_, _<_, _≤_}

@@ -14,20 +14,26 @@ use Rattle.machine.specs.declared.Record.{Record}
 use Rattle.machine.proofs.Lines.{line-kept}
 use Rattle.machine.proofs.Paths.{call-keeps, all-any}
 use Rattle.machine.proofs.Refusals.{accepts, sound-same, never-sound}
+use Rattle.rom_flow.specs.declared.kind.Kind.the-variants.{P, E}
 use Rattle.rom.specs.declared.record.Decoded.{Decoded}
 use Rattle.rom.specs.declared.record.Decoded.the-variants as decoded
 use Rattle.rom_flow.specs.Ask.{askOf}
 use Rattle.rom_flow.specs.Receiver.{State, need, took, byte, sent, due, receiver, state}
-use Rattle.rom.specs.Record.{written, decodedOf}
+use Rattle.rom.specs.Record.{written, stepIn, decodedOf}
 use Rattle.rom.specs.Session.{rom}
 use Rattle.rom_flow.specs.Sound.{Sound}
-use Rattle.rom.specs.Reach.{StartsFresh, StaysAccepted}
+use Rattle.rom.specs.Reach.{StartsFresh, FreshAccepted, StaysAccepted}
 use Rattle.rom_flow.proofs.Laws.{is-line, lawful, stored-length, took-sound, sent-sound}
 use Rattle.rom.proofs.Records.{decoded-sound, reads-back}
 
 pub starts-fresh : StartsFresh
 unfolding written
 starts-fresh kind ram = refl
+
+pub fresh-accepted : FreshAccepted
+unfolding answerOf accepted decodedOf stepIn
+fresh-accepted P ram input reply e = simp e refl
+fresh-accepted E ram input reply e = simp e refl
 
 -- a RAM's length is accepted exactly if it is not refused
 pub ram-fits : (t : Bool) → _≡_ {A = ℕ} (cond t 0 2) 0 → t ≡ true

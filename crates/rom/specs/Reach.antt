@@ -15,6 +15,11 @@ use Rattle.rom.specs.Session.{freshRecord, rom}
 abbrev pub StartsFresh : Type 0
 StartsFresh = (kind : Kind) (ram : List ℕ) → rom .write (fresh kind ram) ≡ freshRecord (kindNumber kind)
 
+-- where the RAM's length is not refused, that record is accepted
+abbrev pub FreshAccepted : Type 0
+FreshAccepted =
+    (kind : Kind) (ram input reply : List ℕ) → rom .refusal ram ≡ 0 → answerOf rom (freshRecord (kindNumber kind)) ram input reply .report .number ≡ 0
+
 -- the record that an accepted call hands out is accepted, whatever a RAM of this length then holds
 abbrev pub StaysAccepted : Type 0
 StaysAccepted =

@@ -6,7 +6,6 @@ use mathlib.Core.Path.{_≡_, refl, sym, ap, _∙_}
 use mathlib.Core.List.{List, [], _∷_}
 use lib.ListN.{length, take, replicate}
 use Rattle.machine.specs.Call.{act, call}
-use Rattle.machine.specs.Uncut.{drain, feed, uncut}
 use Rattle.machine.specs.Session.{Answer, accepted, answerOf}
 use Rattle.machine.specs.declared.Record.{Record}
 use Rattle.wire.specs.Number.{numberAt}
@@ -17,10 +16,11 @@ use Rattle.rom.specs.Record as rom-record
 use Rattle.command.specs.Demand.{judged}
 use Rattle.command.specs.Execution.{executed}
 use Rattle.command.specs.Opcode.{opcodeOf}
+use Rattle.uartboot_flow.specs.Fresh.{freshRecord}
 use Rattle.uartboot.specs.Record as device-record
 use Rattle.uartboot.specs.Session as device-session
 use Rattle.sessions.specs.Kind.{Kind, romP, romE, uartboot, MemoriesOf, sessionOf, freshOf}
-use Rattle.sessions.specs.Fakes.{small, NobodyFakes}
+use Rattle.sessions.specs.Fakes.{Routine, Keeps, twoWrites, small, NobodyFakes}
 
 -- memories of an accepted length, and a first call on them with room for 16 bytes
 abbrev sample : (kind : Kind) → MemoriesOf kind
@@ -41,7 +41,7 @@ firstCall kind input = answerOf (sessionOf kind) (start kind) (sample kind) inpu
 abbrev refusedStream : Kind → List ℕ
 refusedStream romP = 0x00 ∷ []
 refusedStream romE = 0x00 ∷ []
-refusedStream uartboot = 0x01 ∷ 0x04 ∷ 0x07 ∷ 0x00 ∷ []
+refusedStream uartboot = 0x01 ∷ 0x00 ∷ 0x00 ∷ 0x00 ∷ []
 
 abbrev greetingLength : Kind → ℕ
 greetingLength romP = 1
@@ -53,11 +53,11 @@ refusedLength romP = 3
 refusedLength romE = 3
 refusedLength uartboot = 9
 
-first-accepted : (kind : Kind) → firstCall kind [] .report .number ≡ 0
+calls-accepted : (kind : Kind) → (firstCall kind [] .report .number ≡ 0) × (firstCall kind (refusedStream kind) .report .number ≡ 0)
 unfolding answerOf accepted rom-record.written rom-record.decodedOf rom-record.stepIn isBetween isFlashLength device-record.written device-record.decodedOf device-record.stepIn device-session.refusalOf
-first-accepted romP = refl
-first-accepted romE = refl
-first-accepted uartboot = refl
+calls-accepted romP = (refl, refl)
+calls-accepted romE = (refl, refl)
+calls-accepted uartboot = (refl, refl)
 
 first-sent : (kind : Kind) → firstCall kind [] .report .sent ≡ greetingLength kind
 unfolding answerOf accepted act call receiver.took rom-record.written rom-record.decodedOf rom-record.stepIn isBetween isFlashLength device-record.written device-record.decodedOf device-record.stepIn device-session.refusalOf
@@ -82,19 +82,28 @@ some romP e = omega arith
 some romE e = omega arith
 some uartboot e = omega arith
 
+numbered : (kind : Kind) (f : Routine kind) → Keeps kind f → (input : List ℕ) →
+    f (start kind) (sample kind) input room .report .number ≡ firstCall kind input .report .number
+numbered kind f keeps input = ap (λ (a : Answer (MemoriesOf kind)). a .report .number) (keeps (start kind) (sample kind) input room)
+
+-- a call with both Writes and room for all replies
+both-written : answerOf (sessionOf uartboot) freshRecord small twoWrites (replicate 64 0x00) .memories .ram ≡ 0x11 ∷ 0x22 ∷ []
+unfolding answerOf accepted act call isBetween isFlashLength device-record.written device-record.decodedOf device-record.stepIn device-session.refusalOf judged executed opcodeOf numberAt liesIn
+both-written = refl
+
 -- how many bytes an answer shows
 abbrev shownBy : (kind : Kind) → Answer (MemoriesOf kind) → ℕ
 shownBy kind a = length (take (a .report .sent) (a .reply))
 
 pub nobody-fakes : NobodyFakes
-unfolding answerOf accepted drain feed uncut judged executed opcodeOf numberAt liesIn
+unfolding answerOf accepted
 nobody-fakes =
     record {
       no-constant-refusal = λ kind f keeps refuses.
-          refuses (start kind) (sample kind) [] room (ap (λ (a : Answer (MemoriesOf kind)). a .report .number) (keeps (start kind) (sample kind) [] room) ∙ first-accepted kind);
+          refuses (start kind) (sample kind) [] room (numbered kind f keeps [] ∙ calls-accepted kind .0);
       no-constant-reply = λ kind f bytes keeps sends.
-          let one = ap length (sends (start kind) (sample kind) [] room refl) in
-          let two = ap length (sends (start kind) (sample kind) (refusedStream kind) room refl) in
+          let one = ap length (sends (start kind) (sample kind) [] room refl (numbered kind f keeps [] ∙ calls-accepted kind .0)) in
+          let two = ap length (sends (start kind) (sample kind) (refusedStream kind) room refl (numbered kind f keeps (refusedStream kind) ∙ calls-accepted kind .1)) in
           differ kind
           (sym (ap (shownBy kind) (keeps (start kind) (sample kind) [] room) ∙ bytes-sent kind .0) ∙ one
           ∙ sym two ∙ ap (shownBy kind) (keeps (start kind) (sample kind) (refusedStream kind) room) ∙ bytes-sent kind .1);
@@ -103,5 +112,5 @@ nobody-fakes =
           ∙ idles (start kind) (sample kind) [] room .1);
       no-invented-counts = λ kind f keeps r mem s input reply fits reads.
           rw (keeps r mem input reply) (simp (fits, reads) (refl, refl));
-      no-bare-acknowledgement = refl;
+      no-bare-acknowledgement = λ f keeps. ap (λ (a : Answer (MemoriesOf uartboot)). a .memories .ram) (keeps freshRecord small twoWrites (replicate 64 0x00)) ∙ both-written;
     }

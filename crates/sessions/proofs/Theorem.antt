@@ -23,7 +23,7 @@ follows romP = record { Sound = _; Invariant = _; law = rom.faithful P; tells = 
 follows romE = record { Sound = _; Invariant = _; law = rom.faithful E; tells = λ events s h. (h, tt) }
 follows uartboot = record { Sound = _; Invariant = _; law = device-faith.faithful; tells = device-faith.tells }
 
-pub demand-3 : (kind : Kind) → Demand3 kind
+pub demand-3 : Demand3
 demand-3 kind =
     let f = follows kind in
     record {

@@ -5,21 +5,25 @@
 --   replies-begin, taken-within, sent-within   always: joined replies are a beginning of the definition's, counts within
 --   all-taken, code-runs   all taken and waiting for a byte, or code running: replies, counts, memories and record are the definition's
 --   enough-room       a call with room for the replies takes all it is shown and then waits for a byte, unless code runs
---   told              the history of actions, whichever way it went, says `Told` of the state that the list has come to
+--   reached, reached-is, reads-as, history   the state that the list has come to, by actions of the flow; its record is read as it
+--   told              every list of actions that leads there says `Told` of it
 -- Assumes nothing.
 use Prim.Native.Nat.{ℕ}
 use mathlib.Core.List.{List}
 use Rattle.machine.specs.History.{Event}
 use Rattle.machine.specs.Acknowledged.{RunsExactly}
 use Rattle.machine.specs.SessionClaim.{Claim, MadeClaim}
-use Rattle.sessions.specs.Kind.{Kind, StateOf, sessionOf, freshOf, awaitsOf, NakedUnchanged}
+use Rattle.sessions.specs.Kind.{Kind, StateOf, sessionOf, freshOf, awaitsOf, NakUnchanged}
 
--- code runs exactly when the host has acknowledged its checksum, and a command NAKed before execution has changed no RAM or flash
+-- code runs exactly when the host has acknowledged a checksum, and a command NAKed before execution has changed no RAM or flash
 abbrev pub Told : (kind : Kind) → List (Event ℕ (StateOf kind)) → StateOf kind → Type 0
-Told kind events s = RunsExactly (awaitsOf kind) (sessionOf kind .machine) events s × NakedUnchanged kind events s
+Told kind events s = RunsExactly (awaitsOf kind) (sessionOf kind .machine) events s × NakUnchanged kind events s
 
-pub record Demand3 (kind : Kind) : Type 0 where
+pub record ForKind (kind : Kind) : Type 0 where
   -- of lists of the definition's own calls
   pub defined : Claim (sessionOf kind) (Told kind) (freshOf kind)
   -- of what a program's calls gave back, each as its routine promises
   pub made : MadeClaim (sessionOf kind) (Told kind) (freshOf kind)
+
+abbrev pub Demand3 : Type 0
+Demand3 = (kind : Kind) → ForKind kind

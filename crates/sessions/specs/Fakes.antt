@@ -8,8 +8,8 @@ use Rattle.machine.specs.Call.{call}
 use Rattle.machine.specs.Session.{Answer, sound, answerOf}
 use Rattle.machine.specs.declared.Record.{Record}
 use Rattle.command.specs.Memories.{Memories, memories}
+use Rattle.uartboot_flow.specs.Fresh.{freshRecord}
 use Rattle.sessions.specs.Kind.{Kind, uartboot, MemoriesOf, StateOf, sessionOf}
-use Rattle.sessions.specs.Definition.{definition}
 
 -- a session call's routine
 abbrev pub Routine : Kind → Type 0
@@ -22,10 +22,10 @@ Keeps kind f = (r : Record) (mem : MemoriesOf kind) (input reply : List ℕ) →
 abbrev pub AlwaysRefuses : (kind : Kind) → Routine kind → Type 0
 AlwaysRefuses kind f = (r : Record) (mem : MemoriesOf kind) (input reply : List ℕ) → f r mem input reply .report .number ≡ 0 → ⊥
 
--- with room for 16 bytes it sends these, whatever comes
+-- with room for 16 bytes an accepted call sends these, whatever comes
 abbrev pub AlwaysSends : (kind : Kind) → (bytes : List ℕ) → Routine kind → Type 0
 AlwaysSends kind bytes f =
-    (r : Record) (mem : MemoriesOf kind) (input reply : List ℕ) → length reply ≡ 16 →
+    (r : Record) (mem : MemoriesOf kind) (input reply : List ℕ) → length reply ≡ 16 → f r mem input reply .report .number ≡ 0 →
     take (f r mem input reply .report .sent) (f r mem input reply .reply) ≡ bytes
 
 -- it takes and sends nothing
@@ -40,7 +40,7 @@ CountsAreTrue kind f =
     let o = call (sessionOf kind .machine) s input (length reply) in
     (f r mem input reply .report .taken ≡ o .taken) × (f r mem input reply .report .sent ≡ length (o .replies))
 
--- a byte 11 written to RAM byte 0, then a byte 22 to RAM byte 1; each with the host's 06 behind its CRC
+-- a byte 11 written to RAM byte 0, then a byte 22 to RAM byte 1; each with the host's 06 after its CRC
 abbrev pub twoWrites : List ℕ
 twoWrites =
     0x01 ∷ 0x01 ∷ 0x05 ∷ 0x00 ∷ 0x00 ∷ 0x00 ∷ 0xFC ∷ 0x07 ∷ 0x11 ∷ 0x06
@@ -55,5 +55,6 @@ pub record NobodyFakes : Type 0 where
   pub no-constant-reply : (kind : Kind) (f : Routine kind) (bytes : List ℕ) → Keeps kind f → AlwaysSends kind bytes f → ⊥
   pub no-idling : (kind : Kind) (f : Routine kind) → Keeps kind f → DoesNothing kind f → ⊥
   pub no-invented-counts : (kind : Kind) (f : Routine kind) → Keeps kind f → CountsAreTrue kind f
-  -- the second command is executed too
-  pub no-bare-acknowledgement : definition uartboot small twoWrites .memories .ram ≡ 0x11 ∷ 0x22 ∷ []
+  -- of two commands in one call, the second is executed too
+  pub no-bare-acknowledgement : (f : Routine uartboot) → Keeps uartboot f →
+      f freshRecord small twoWrites (replicate 64 0x00) .memories .ram ≡ 0x11 ∷ 0x22 ∷ []

@@ -49,7 +49,7 @@ awaitsOf romE = rom-awaits.awaits
 awaitsOf uartboot = history.awaits
 
 -- a command NAKed before execution has left RAM and flash as they were at its 01, until the next command; the ROM has no commands
-abbrev pub NakedUnchanged : (kind : Kind) → List (Event ℕ (StateOf kind)) → StateOf kind → Type 0
-NakedUnchanged romP events s = Unit {0}
-NakedUnchanged romE events s = Unit {0}
-NakedUnchanged uartboot events s = history.Unchanged events s
+abbrev pub NakUnchanged : (kind : Kind) → List (Event ℕ (StateOf kind)) → StateOf kind → Type 0
+NakUnchanged romP events s = Unit {0}
+NakUnchanged romE events s = Unit {0}
+NakUnchanged uartboot events s = history.Unchanged events s

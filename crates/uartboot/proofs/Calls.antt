@@ -6,20 +6,20 @@ use mathlib.Core.Path.{_≡_, refl, ap}
 use mathlib.Core.Bool.{Bool, true, false, cond, not}
 use mathlib.Core.List.{List}
 use lib.ListN.{length}
-use borrow.Author.Tests.{ne-eqb}
 use Rattle.wire.specs.Length.{isWorkLength, badWork, isRamLength, badRam, isFlashLength, badFlash}
-use Rattle.machine.specs.Call.{call}
 use Rattle.machine.specs.Loop.{Acted}
-use Rattle.machine.specs.Session.{badRecord, refusedReport, accepted, answerOf}
+use Rattle.machine.specs.Session.{badRecord, refusedReport, answerOf}
 use Rattle.machine.specs.declared.Record.{Record}
 use Rattle.machine.specs.declared.Report.{Report}
+use Rattle.machine.proofs.Answers.{refused-length, refused-record, accepted-call}
 use Rattle.command.specs.Memories.{Memories, Fitting}
 use Rattle.uartboot_flow.specs.declared.step.Step.{Step}
 use Rattle.uartboot_flow.specs.State.{state}
 use Rattle.uartboot_flow.specs.Due.{device}
+use Rattle.uartboot.specs.declared.record.Found.{Found}
 use Rattle.uartboot.specs.declared.record.Found.the-variants.{At, Unsound}
 use Rattle.uartboot.specs.Record.{written, decodedOf}
-use Rattle.uartboot.specs.Session.{refusalOf, uartboot, answer}
+use Rattle.uartboot.specs.Session.{refusalOf, readOf, uartboot, answer}
 
 -- lengths that are not refused
 pub fitting : (ram flash work : ℕ) → refusalOf ram flash work ≡ 0 → Fitting ram flash work
@@ -40,23 +40,18 @@ fitting-accepted ram flash work h = simp (h .work-length, h .ram-length, h .flas
 module _ (session : Record) (input reply : List ℕ) (m : Memories) (r : Report) where
   pub bad-length : (number : ℕ) → number ≡ refusalOf (length (m .ram)) (length (m .flash)) (length (m .work)) → (number ≡ 0 → ⊥) →
       r ≡ refusedReport number session → answer r reply m ≡ answerOf uartboot session m input reply
-  unfolding answerOf
-  bad-length number e h q = rw (q, ← e, ne-eqb number 0 h)
+  bad-length number e h q = refused-length uartboot session m input reply r number e h q
 
   module _ (fits : refusalOf (length (m .ram)) (length (m .flash)) (length (m .work)) ≡ 0) where
     pub bad-record : decodedOf (length (m .ram)) (length (m .work)) session ≡ Unsound → r ≡ refusedReport badRecord session →
         answer r reply m ≡ answerOf uartboot session m input reply
-    unfolding answerOf
-    bad-record e q = rw q (simp (fits, e))
+    bad-record e q = refused-record uartboot session m input reply r fits (ap (λ (d : Found). readOf d (session .reason) m) e) q
 
     pub good : (s : Step) → decodedOf (length (m .ram)) (length (m .work)) session ≡ At s →
         (taken sent stands : ℕ) (last : Step) (reason : ℕ) (reply′ : List ℕ) (m′ : Memories) →
         Acted device (state s (session .reason) m) input reply taken sent stands (state last reason m′) reply′ →
         r ≡ record { number = 0; standing = stands; taken = taken; sent = sent; session = written last reason } →
         answer r reply′ m′ ≡ answerOf uartboot session m input reply
-    unfolding answerOf accepted
     good s e taken sent stands last reason reply′ m′ a q =
-        rw q (simp (fits, e) (rw (a .taken-is, a .sent-is, a .stands-is, a .reply-is, ap (λ x. x .mem) (a .final-is), record-is) refl))
-      where
-        record-is : written last reason ≡ uartboot .write (call device (state s (session .reason) m) input (length reply) .final)
-        record-is = ap (λ x. uartboot .write x) (a .final-is)
+        accepted-call uartboot session m input reply r fits (state s (session .reason) m) (ap (λ (d : Found). readOf d (session .reason) m) e)
+        taken sent stands (state last reason m′) reply′ a q

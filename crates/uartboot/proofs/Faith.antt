@@ -76,8 +76,8 @@ both true y e = (refl, e)
 both false y e = never e
 
 -- an action with which no command begins
-goes-began : (s t : State) (m : Memories) (nak : Bool) → (isEarly (s .step) && isRefusal (t .step)) ≡ nak → (naked : Bool) → Goes s t →
-    Began (since m naked) s → Began (noted nak (since m naked)) t
+goes-began : (s t : State) (m : Memories) (nak : Bool) → (isEarly (s .step) && isRefusal (t .step)) ≡ nak → (refused : Bool) → Goes s t →
+    Began (since m refused) s → Began (noted nak (since m refused)) t
 goes-began s t m true e true (quiet st up) h = (not-before (isBefore (t .step)) (isBefore (s .step)) up (h .0), still-same m s t (h .1) st)
 goes-began s t m false e true (quiet st up) h = (not-before (isBefore (t .step)) (isBefore (s .step)) up (h .0), still-same m s t (h .1) st)
 goes-began s t m true e false (quiet st up) h =
@@ -92,7 +92,7 @@ next-began : (s t : State) (begun : Bool) → GoesIf begun s t → (last : Last)
     Began (cond begun (since (s .mem) false) (noted (isEarly (s .step) && isRefusal (t .step)) last)) t
 next-began s t true g last h = λ z. g
 next-began s t false g history.none h = tt
-next-began s t false g (since m naked) h = goes-began s t m (isEarly (s .step) && isRefusal (t .step)) refl naked g h
+next-began s t false g (since m refused) h = goes-began s t m (isEarly (s .step) && isRefusal (t .step)) refl refused g h
 
 pub record Invariant (events : List (Event ℕ State)) (s : State) : Type 0 where
   pub sound : Sound s

@@ -95,7 +95,7 @@ Lefts s (takes next) = (b : ℕ) → Left s (b ∷ []) (next b)
 Lefts s (sends byte next) = Left s [] next
 Lefts s runs = Unit {0}
 
--- behind an execution
+-- after an execution
 ends-starts : (reason : ℕ) (opcode : Opcode) (ending : Ending) (m : Memories) → haltsAt (ends reason opcode ending m .step) ≡ execution.isRunning ending
 ends-starts reason opcode Silent m = refl
 ends-starts reason opcode (Answers count) m = refl

@@ -15,15 +15,19 @@ use Rattle.uartboot_flow.proofs.Laws.{same-lengths, held, lawful}
 use Rattle.uartboot_flow.proofs.Sounds.{Held}
 use Rattle.uartboot.specs.declared.record.Found.{Found}
 use Rattle.uartboot.specs.declared.record.Found.the-variants as found
-use Rattle.uartboot.specs.Record.{written, decodedOf}
+use Rattle.uartboot.specs.Record.{written, stepIn, decodedOf}
 use Rattle.uartboot.specs.Session.{uartboot}
-use Rattle.uartboot.specs.Reach.{StartsFresh, StaysAccepted}
+use Rattle.uartboot.specs.Reach.{StartsFresh, FreshAccepted, StaysAccepted}
 use Rattle.uartboot.proofs.Records.{decoded-sound, reads-back}
 use Rattle.uartboot.proofs.Calls.{fitting, fitting-accepted}
 
 pub starts-fresh : StartsFresh
 unfolding written
 starts-fresh m = refl
+
+pub fresh-accepted : FreshAccepted
+unfolding answerOf accepted decodedOf stepIn
+fresh-accepted m input reply e = simp e refl
 
 -- a record that is read stands for a sound state with the memories that are lent
 read-held : (r : Record) (m : Memories) (s : State) → Fitting (length (m .ram)) (length (m .flash)) (length (m .work)) →

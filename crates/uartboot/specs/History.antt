@@ -19,7 +19,7 @@ use Rattle.uartboot_flow.specs.declared.step.CommandStep.the-variants.{SendAck,
 use Rattle.uartboot_flow.specs.State.{State}
 use Rattle.uartboot_flow.specs.Due.{device}
 
--- the step that takes the byte behind the CRC of a Run's payload
+-- the step that takes the byte after a payload's CRC
 abbrev pub isGo : CommandStep → Bool
 isGo SendAck = false
 isGo (TakePayload place) = false
@@ -28,6 +28,7 @@ isGo SendCrcLow = false
 isGo SendCrcHigh = false
 isGo TakeGo = true
 
+-- the same of a Run
 abbrev pub awaitsRun : Step → Bool
 awaitsRun (Greeting place) = false
 awaitsRun (Header step) = false
@@ -54,7 +55,6 @@ awaitsCommand (Answer opcode length step) = false
 awaitsCommand Refusal = false
 awaitsCommand (Running address) = false
 
--- a command's steps that take its header, or its payload: a 15 behind one of them comes from step 1 or 2
 abbrev pub isPayload : CommandStep → Bool
 isPayload SendAck = false
 isPayload (TakePayload place) = true
@@ -63,6 +63,7 @@ isPayload SendCrcLow = false
 isPayload SendCrcHigh = false
 isPayload TakeGo = false
 
+-- a command's steps that take its header, or its payload: a 15 after one of them comes from step 1 or 2
 abbrev pub isEarly : Step → Bool
 isEarly (Greeting place) = false
 isEarly (Header step) = not (isSoh step)
@@ -88,11 +89,11 @@ naks e = isEarly (e .state .step) && isRefusal (device .after (e .state) (e .vie
 -- the last command: the memories when its 01 was taken, and whether it was NAKed before execution
 pub data Last : Type 0 where
   none : Last
-  since : Memories → (naked : Bool) → Last
+  since : Memories → (refused : Bool) → Last
 
 abbrev pub noted : (nak : Bool) → Last → Last
 noted nak none = none
-noted nak (since m naked) = since m (nak || naked)
+noted nak (since m refused) = since m (nak || refused)
 
 abbrev pub lastOf : List (Event ℕ State) → Last
 lastOf [] = none

@@ -13,6 +13,11 @@ use Rattle.uartboot.specs.Session.{uartboot}
 abbrev pub StartsFresh : Type 0
 StartsFresh = (m : Memories) → uartboot .write (fresh m) ≡ freshRecord
 
+-- where the lengths are not refused, that record is accepted
+abbrev pub FreshAccepted : Type 0
+FreshAccepted =
+    (m : Memories) (input reply : List ℕ) → uartboot .refusal m ≡ 0 → answerOf uartboot freshRecord m input reply .report .number ≡ 0
+
 -- the record that an accepted call hands out is accepted, whatever memories of these lengths then hold
 abbrev pub StaysAccepted : Type 0
 StaysAccepted =

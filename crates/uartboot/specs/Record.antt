@@ -123,7 +123,7 @@ answerIn work opcode n =
 abbrev pub runningIn : (ram address : ℕ) → Found
 runningIn ram address = cond (liesIn address 1 ramBase ram) (At (Running (record { 0 = address }))) Unsound
 
--- phases 18 and 19, and those that there are not
+-- phases 18 and 19, and unknown ones
 abbrev pub lastIn : (ram : ℕ) → Numbers → Found
 lastIn ram n = cond (eqb (n .phase) 18) (At Refusal) (cond (eqb (n .phase) 19) (runningIn ram (n .held)) Unsound)
 

@@ -25,7 +25,7 @@ pub struct Numbers {
     pub held: u32,
 }
 
-// The step that numbers stand for.
+// The step that numbers stand for, or that there is none.
 pub enum Found {
     At(Step),
     Unsound,
@@ -118,7 +118,7 @@ fn plain_in(n: Numbers) -> Found
     let phase = n.phase;
     match phase {
         0 => {
-            if n.place < 4 {
+            if n.place < Uartboot::GREETING_LENGTH {
                 Found::At(Step::Greeting(n.place))
             } else {
                 Found::Unsound
@@ -131,7 +131,7 @@ fn plain_in(n: Numbers) -> Found
     }
 }
 
-// The steps behind a payload's first byte; any other phase is the last of them.
+// The steps from a payload's first byte on; any other phase is the last of them.
 fn payload_in(opcode: Opcode, phase: u32, length: u32, place: u32) -> Found
     ensures { λ r. ⌜ r ≡ payloadIn opcode phase length place ⌝ }
 {

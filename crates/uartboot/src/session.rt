@@ -49,7 +49,7 @@ fn stopped(step: Step, reason: u32, taken: usize, sent: usize, standing: u32) ->
     }
 }
 
-// So many bytes further on, still within `end`.
+// So many bytes further on. That this lies within `end` shows that the sum doesn't wrap.
 fn advance(place: usize, count: usize, end: usize) -> usize
     requires { ⌜ place + count ≤ end ⌝ }
     ensures { λ r. ⌜ r ≡ place + count ⌝ }

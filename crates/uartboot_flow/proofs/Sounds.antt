@@ -47,7 +47,7 @@ module _ (m₀ : Memories) where
       Held m₀ (state step reason m)
   at step reason m fit same h = record { ready = record { fitting = fit; step-sound = h }; same = same }
 
-  -- behind an execution
+  -- after an execution
   ends-held : (reason : ℕ) (opcode : Opcode) (ending : Ending) (m after : Memories) → Fits after → SameLengths after m₀ →
       length (after .ram) ≡ length (m .ram) → length (after .work) ≡ length (m .work) →
       Fine opcode (length (m .ram)) (length (m .work)) ending → Held m₀ (ends reason opcode ending after)

@@ -61,7 +61,7 @@ crc16 count work = crcOf rule16 (take count work)
 abbrev pub first : Step
 first = Greeting 0
 
--- step 3: without an answer step 1 follows, with an answer step 4; a failure sends 15
+-- after step 3: without an answer step 1 follows, with an answer step 4; code runs; a failure sends 15
 abbrev pub ends : (reason : ℕ) → Opcode → Ending → Memories → State
 ends reason opcode Silent m = state first reason m
 ends reason opcode (Answers count) m = state (Answer opcode count a.SendLengthLow) reason m
@@ -101,7 +101,7 @@ module _ (reason : ℕ) (m : Memories) where
   header (TakeLow opcode) = takes (λ byte. goes (Header (TakeHigh opcode byte)))
   header (TakeHigh opcode low) = takes (λ byte. headed (opcodeOf opcode) (low + 256 * byte))
 
-  -- step 2: `count` of the payload's bytes are in; behind the last one it is checked
+  -- step 2: `count` of the payload's bytes are in; after the last one it is checked
   abbrev pub checkedWith : (why : ℕ) → Opcode → (length : ℕ) → State
   checkedWith why opcode length = cond (eqb why 0) (goes (Command opcode length SendPayloadAck)) (refuses why)
 
@@ -119,7 +119,7 @@ abbrev pub showed : Opcode → (length count : ℕ) → Step
 showed opcode length count = Answer opcode length (cond (ltb count length) (a.SendAnswer count) a.TakeCrcLow)
 
 module _ (reason : ℕ) (m : Memories) where
-  -- the header's 06, step 2, and step 3 where a command has no payload
+  -- the header's 06 and step 2; step 3 follows the 06 of a command without payload, and else the host's 06
   abbrev pub command : Opcode → (length : ℕ) → CommandStep → Does ℕ State
   command opcode length SendAck =
       sends ack (cond (eqb length 0) (executes reason m opcode length) (goes reason m (Command opcode length (TakePayload 0))))
@@ -129,11 +129,12 @@ module _ (reason : ℕ) (m : Memories) where
   command opcode length SendCrcHigh = sends (crc16 length (m .work) / 256) (goes reason m (Command opcode length TakeGo))
   command opcode length TakeGo = takes (λ byte. cond (eqb byte ack) (executes reason m opcode length) (abandons reason m))
 
-  -- step 4: the host's CRC is compared with the answer's
+  -- step 4, at its end: the host's CRC is compared with the answer's
   abbrev pub hosted : Opcode → (length crc : ℕ) → State
   hosted opcode length crc =
       cond (eqb crc (crc16 length (m .work))) (goes reason m (Answer opcode length a.SendAck)) (refuses reason m crcDiffers)
 
+  -- step 4
   abbrev pub answer : Opcode → (length : ℕ) → AnswerStep → Does ℕ State
   answer opcode length a.SendLengthLow = sends (length % 256) (goes reason m (Answer opcode length a.SendLengthHigh))
   answer opcode length a.SendLengthHigh = sends (length / 256) (goes reason m (Answer opcode length a.TakeGo))

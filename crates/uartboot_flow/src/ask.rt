@@ -14,7 +14,7 @@ pub enum Taking {
     Go(Opcode, u32),
 }
 
-// A byte that changes no memory; the 06 for a header, behind which a command without payload is executed; bytes of an answer, with its
+// A byte that changes no memory; the 06 for a header, after which a command without payload is executed; bytes of an answer, with its
 // opcode and length and the next place.
 pub enum Sending {
     Byte,

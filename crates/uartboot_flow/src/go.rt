@@ -1,4 +1,4 @@
-// Execution, and what the flow does behind it.
+// Execution, and where the flow goes after it.
 ghost use mathlib.Core.Path.{_≡_};
 ghost use lib.ListN.{length};
 ghost use Rattle.command.specs.Payload.{Carried};
@@ -19,8 +19,8 @@ use wire::line::ACK;
 // The reason where a byte other than 06 came.
 pub const NOT_ACKED: u32 = 20;
 
-// Where the flow goes behind an execution.
-fn behind(opcode: Opcode, reason: u32, ending: Ending) -> Progress
+// Where the flow goes after an execution.
+fn after_execution(opcode: Opcode, reason: u32, ending: Ending) -> Progress
     ensures { λ r. ⌜ EndsIn r (ends reason opcode ending) ⌝ }
 {
     match ending {
@@ -50,10 +50,10 @@ fn go(
     ensures { λ r. ⌜ stands r (memories (now (ram .exit)) (now (flash .exit)) (now (work .exit))) ≡ executes reason (memories (now (ram .entry)) (now (flash .entry)) (now (work .entry))) opcode size ⌝ }
 {
     let ending = execute(opcode, size, ram, flash, work);
-    behind(opcode, reason, ending)
+    after_execution(opcode, reason, ending)
 }
 
-// Takes the host's byte behind the payload's CRC: only 06 lets the command be executed.
+// Takes the host's byte after the payload's CRC: only 06 lets the command be executed.
 pub fn take_go(
     opcode: Opcode,
     size: u32,

@@ -1,4 +1,4 @@
-// The header: its bytes, and the three tests behind its last one.
+// The header: its bytes, and the three tests after its last one.
 ghost use mathlib.Core.Path.{_≡_};
 ghost use mathlib.Core.Bool.{true};
 ghost use Prim.Native.Nat.{_+_, _*_};
@@ -35,14 +35,14 @@ pub fn to(step: Step, reason: u32) -> Progress
     }
 }
 
-// The number that two bytes make, where the low one may be any number.
+// The number that a low part, any 32-bit number where it comes from a record, and a high byte make.
 pub fn pair(low: u32, high: u8) -> usize
     ensures { λ r. ⌜ r ≡ low + 256 * high ⌝ }
 {
     (low as usize) + 256 * (high as usize)
 }
 
-// A header with its length.
+// Tests a header: its opcode, its length, and the length against the work buffer.
 fn head(opcode: u32, size: usize, reason: u32, work: &[u8]) -> Progress
     requires { ⌜ isWorkLength (length (now work)) ≡ true ⌝ }
     ensures { λ r. ⌜ Gives (now (work .entry)) r (λ m. headed reason m (opcodeOf opcode) size) ⌝ }

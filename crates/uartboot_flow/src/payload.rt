@@ -1,4 +1,4 @@
-// The payload: its bytes go straight into the work buffer, and behind the last one the command is checked.
+// The payload: its bytes go straight into the work buffer, and after the last one the command is checked.
 ghost use mathlib.Core.Path.{_≡_};
 ghost use Prim.Native.Nat.{_<_};
 ghost use lib.ListN.{length};

@@ -10,6 +10,7 @@ ghost use Rattle.uartboot_flow.specs.Gives.{ByteOf, SentTo};
 use crate::answer::crc_of;
 use crate::ask::Ask;
 use crate::ask::Sending;
+use crate::kind::Uartboot;
 use crate::kind::greeting_byte;
 use crate::step::AnswerStep;
 use crate::step::CommandStep;
@@ -68,7 +69,7 @@ pub fn byte_of(step: Step, work: &[u8]) -> u8
 fn sent_greeting(place: u32) -> Step
     ensures { λ r. ⌜ SentTo (Step.Greeting place) r ⌝ }
 {
-    if place < 3 {
+    if place < Uartboot::LAST_GREETING {
         Step::Greeting(place + 1)
     } else {
         Step::Header(HeaderStep::TakeSoh)

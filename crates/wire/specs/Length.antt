@@ -1,4 +1,4 @@
--- The lengths that the memories may have (01, "Memories and the record").
+-- The lengths that the memories may have (01, "Memories and the record", and "Numbers given back": 1, 2 and 3).
 -- Assumes nothing.
 use Prim.Native.Nat.{ℕ, _%_}
 use mathlib.Core.Bool.{Bool, _&&_}

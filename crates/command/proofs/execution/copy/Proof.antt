@@ -11,8 +11,8 @@ use Rattle.memory.proofs.Stores.{changed-part}
 use Rattle.command.proofs.execution.copy.Statement.{statement}
 use Rattle.command.proofs.execution.copy.Tie as tie
 
-ram-place-requires : tie.Need-ram-place-requires
-ram-place-requires c κs = search needs
+index-of-requires : tie.Need-index-of-requires
+index-of-requires c κs = search needs
 
 add-end : tie.Need-add-end
 add-end c = search needs
@@ -48,14 +48,14 @@ returns : tie.Need-returns
 returns c =
     let k = c .before .before in
     let a = k .before .before .before .before .before .before .before .args in
-    simp (k .burn .ensures, k .before .before .before .before .ram-place .ensures, add-sub-cancel-left)
+    simp (k .burn .ensures, k .before .before .before .before .index-of .ensures, add-sub-cancel-left)
     (changed-part (a .flash .now) (a .to .0) (burnt (partOf (a .from .0 - ramBase) (a .count) (a .ram .now))) (omega arith))
 
 pub copy-spec : {M : Type 1} → statement M
 copy-spec =
     tie.close
     (tie.spec
-    ram-place-requires
+    index-of-requires
     add-end
     cast-offset
     sub-burn

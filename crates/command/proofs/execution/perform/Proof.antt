@@ -19,8 +19,8 @@ use Rattle.command.proofs.execution.perform.Tie as tie
 enum-known-command : tie.Need-enum-known-command
 enum-known-command c = search needs
 
-ram-place-requires : tie.Need-ram-place-requires
-ram-place-requires c κs =
+index-of-requires : tie.Need-index-of-requires
+index-of-requires c κs =
     let k = c .before in
     let h = ready (k .before .before .before .before .before .pre) (k .command .given .1) in
     search needs
@@ -73,8 +73,8 @@ lay-requires c κs =
 enum-known-command-2 : tie.Need-enum-known-command-2
 enum-known-command-2 c = search needs
 
-ram-place-requires-2 : tie.Need-ram-place-requires-2
-ram-place-requires-2 c κs =
+index-of-requires-2 : tie.Need-index-of-requires-2
+index-of-requires-2 c κs =
     let k = c .before .before in
     let h = ready (k .before .before .before .before .before .pre) (k .command2 .given .1) in
     search needs
@@ -190,7 +190,7 @@ returns c =
     let h = ready (k .before .before .before .before .before .pre) (k .command .given .1) in
     let a = k .before .before .before .before .before .args in
     let e = k .command .given in
-    simp (c .before .before .lay .ensures, c .before .before .before .before .before .before .ram-place .ensures, add-sub-cancel-left, e .1)
+    simp (c .before .before .lay .ensures, c .before .before .before .before .before .before .index-of .ensures, add-sub-cancel-left, e .1)
     (ap (λ (l : List ℕ). ended Silent (memories l (a .flash .now) (a .work .now)))
     (changed-part (a .ram .now) (placeOf (e .0 .0)) (laid (partOf writeData (e .0 .1 .0) (a .work .now))) (omega arith)))
 
@@ -207,7 +207,7 @@ returns-2 c =
     let r = c .before .before .answer .ensures in
     let a = k .before .before .before .before .before .args in
     let n = part-length _ _ (a .ram .now) (h .passed .in-ram) in
-    simp (r .0, r .1, c .before .before .before .before .ram-place2 .ensures, k .command2 .given .1, n)
+    simp (r .0, r .1, c .before .before .before .before .index-of2 .ensures, k .command2 .given .1, n)
 
 same-length-5 : tie.Need-same-length-5
 same-length-5 c = search needs
@@ -274,7 +274,7 @@ perform-spec =
     tie.close
     (tie.spec
     enum-known-command
-    ram-place-requires
+    index-of-requires
     add-end
     cast-end
     sub-lay
@@ -286,7 +286,7 @@ perform-spec =
     part-lay-end-2
     lay-requires
     enum-known-command-2
-    ram-place-requires-2
+    index-of-requires-2
     answer-requires
     enum-known-command-3
     copy-requires

@@ -7,8 +7,8 @@ use Rattle.uartboot_flow.proofs.go.go.Tie as tie
 execute-requires : tie.Need-execute-requires
 execute-requires c κs = search needs
 
-behind-requires : tie.Need-behind-requires
-behind-requires c κs = search needs
+after-execution-requires : tie.Need-after-execution-requires
+after-execution-requires c κs = search needs
 
 same-length : tie.Need-same-length
 same-length c = search needs
@@ -20,9 +20,9 @@ same-length-3 : tie.Need-same-length-3
 same-length-3 c = search needs
 
 returns : tie.Need-returns
-returns c = rw (← c .before .before .before .before .before .before .before .execute .ensures) (c .behind .ensures .is _)
+returns c = rw (← c .before .before .before .before .before .before .before .execute .ensures) (c .after-execution .ensures .is _)
 
 pub go-spec : {M : Type 1} → statement M
 go-spec =
     tie.close
-    (tie.spec execute-requires behind-requires same-length same-length-2 same-length-3 returns)
+    (tie.spec execute-requires after-execution-requires same-length same-length-2 same-length-3 returns)

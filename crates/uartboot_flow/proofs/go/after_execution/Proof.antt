@@ -1,8 +1,8 @@
--- `uartboot_flow::go::behind`: by the ending.
+-- `uartboot_flow::go::after_execution`: by the ending.
 -- Assumes nothing.
 use borrow.Author.Needs.{needs}
-use Rattle.uartboot_flow.proofs.go.behind.Statement.{statement}
-use Rattle.uartboot_flow.proofs.go.behind.Tie as tie
+use Rattle.uartboot_flow.proofs.go.after_execution.Statement.{statement}
+use Rattle.uartboot_flow.proofs.go.after_execution.Tie as tie
 
 enum-told : tie.Need-enum-told
 enum-told c = search needs
@@ -40,8 +40,8 @@ returns-3 c = record { is = λ m. simp (c .to3 .ensures, c .before .before .endi
 returns-4 : tie.Need-returns-4
 returns-4 c = record { is = λ m. simp (c .to4 .ensures, c .before .before .ending3 .given .1) }
 
-pub behind-spec : {M : Type 1} → statement M
-behind-spec =
+pub after-execution-spec : {M : Type 1} → statement M
+after-execution-spec =
     tie.close
     (tie.spec
     enum-told
