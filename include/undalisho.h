@@ -1,0 +1,378 @@
+/* Undalisho: the serial boot line of Dialog chips.
+ *
+ * It plays a chip's end of the line (the boot ROM's receiver, and the loader uartboot), makes the frame that a host
+ * sends to the receiver, names the flash slot that will start, and orders versions. What a function gives and writes
+ * follows from its arguments alone.
+ *
+ * For x86-64 Linux. To compile and link:
+ *
+ *     cc main.c $(pkg-config --cflags --libs --static undalisho)
+ *
+ * Rules that hold for all functions:
+ *
+ * - Number 0 in a result is success. Any other number is a refusal: the rest of the result is 0, and nothing that was
+ *   lent has been written. Where several numbers fit, the one that is listed first is given.
+ * - A pointer to bytes may be NULL only where its length is 0. Bytes need no alignment.
+ * - A record is eight words with the alignment of uint32_t, and never NULL.
+ * - No two things that are lent to one call may overlap, and nobody else writes them until it returns.
+ * - No function keeps a pointer once it has returned, has state of its own, or allocates. So sessions with records and
+ *   memories of their own may be used from different threads at the same time.
+ *
+ * In these comments, numbers of two digits that stand for bytes (02, 15, AA) are hexadecimal. Numbers of several bytes
+ * have the low byte first.
+ */
+#ifndef UNDALISHO_H
+#define UNDALISHO_H
+
+#include <stddef.h>
+#include <stdint.h>
+
+#ifdef __cplusplus
+extern "C" {
+#endif
+
+/* The lengths that memories may have, and the address of RAM's first byte. Flash offsets count from 0. */
+enum {
+    UND_RAM_FIRST = 0x07FC0000,
+    UND_RAM_MAX = 131072,    /* RAM: 1 byte to this many */
+    UND_FLASH_SECTOR = 4096, /* flash: a multiple of this, not 0, */
+    UND_FLASH_MAX = 4194304, /* and at most this */
+    UND_WORK_MIN = 64,       /* work buffer: this many bytes */
+    UND_WORK_MAX = 65535     /* to this many */
+};
+
+/* ---- Versions ----
+ *
+ * A version field has 16 bytes: a text of one to four decimal numbers from 0 to 65535 with dots between them, then only
+ * 00 up to the end. No number has a leading zero; a lone 0 is good. "1.10" and "65535.65535.6553" are good; "", "01.2",
+ * "1..2" and "1.65536" are malformed.
+ */
+
+typedef struct {
+    uint32_t number;
+    uint32_t rank[4];
+} und_ranked;
+
+/* The numbers of a version, missing ones 0.
+ *
+ * Number:  0
+ *          61  the text is malformed, or field_len is not 16
+ * Writes:  nothing that is lent
+ */
+und_ranked und_rank(const uint8_t *field, size_t field_len);
+
+typedef struct {
+    uint32_t number;
+    int32_t order;
+} und_ordered;
+
+/* The order of two versions, number by number: -1 where a is lower than b, 0 where they are equal, 1 where a is higher.
+ * 1.9 is lower than 1.10, and equal to 1.9.0.
+ *
+ * Number:  0
+ *          61  one of the texts is malformed, or one of the lengths is not 16
+ * Writes:  nothing that is lent
+ */
+und_ordered und_order(const uint8_t *a, size_t a_len, const uint8_t *b, size_t b_len);
+
+/* ---- Images ----
+ *
+ * A product header has 12 bytes: 70 52, two bytes that are not tested, the flash offset of image 1 (4 bytes), that of
+ * image 2 (4 bytes). An image is a header of 64 bytes with the code behind it:
+ *
+ *     byte  0  70 51
+ *           2  AA
+ *           3  id
+ *           4  size of the code, 4 bytes: 1 to 131072
+ *           8  CRC-32 of the code, 4 bytes: reflected polynomial 0xEDB88320, start and final XOR 0xFFFFFFFF
+ *          12  version field, 16 bytes
+ *          28  time, 4 bytes
+ *          32  00: not encrypted
+ *          33  reserved, 31 bytes
+ *
+ * It is valid if mark (70 51), flag (AA), size, CRC-32 and byte 32 are as above, and header and code lie wholly in the
+ * flash or in the file.
+ */
+
+typedef struct {
+    uint32_t number;
+    uint32_t slot; /* 1 or 2; 0 when refused */
+} und_selected;
+
+/* The slot that will start, by the product header at an offset of the flash: that of the valid image; where both are
+ * valid, that of the larger id; where the ids are equal, slot 1.
+ *
+ * Number:  0
+ *          3   flash_len is not a length that flash may have
+ *          51  the product header does not lie wholly in the flash
+ *          52  it does not begin with 70 52
+ *          53  neither image is valid
+ * Writes:  nothing that is lent
+ */
+und_selected und_select(const uint8_t *flash, size_t flash_len, uint32_t header_offset);
+
+/* The files of an offer. */
+enum {
+    UND_FILE_INSTALLED = 1,
+    UND_FILE_CANDIDATE = 2
+};
+
+typedef struct {
+    uint32_t number;
+    uint32_t file; /* the one that wins; 0 when refused */
+    size_t place;  /* where its code begins in that file */
+    size_t size;   /* how many bytes its code has */
+} und_offered;
+
+/* Of two image files the one with the higher version, the installed one if they are equal. A file is an image from its
+ * first byte on; bytes behind the code are allowed.
+ *
+ * Number:  0
+ *          62  the installed file is not a valid image
+ *          63  the candidate is not a valid image
+ *          61  the text of one of the versions is malformed
+ * Writes:  nothing that is lent
+ */
+und_offered und_offer(const uint8_t *installed, size_t installed_len, const uint8_t *candidate, size_t candidate_len);
+
+/* ---- Sessions ----
+ *
+ * A session plays the chip's end of the line for a host. All that it keeps is a record and memories, and the caller
+ * holds both: a fresh record begins a session, and each call is lent the record as the last one left it, and the same
+ * memories with the same lengths. Nobody else writes these between calls.
+ *
+ * A call is shown bytes that came from the host (input) and room for bytes to the host (reply). Either may be empty. It
+ * takes and sends bytes until it cannot go on, and reports why (standing):
+ *
+ *     UND_WANTS_BYTE  it must take a byte, and all of the input is taken
+ *     UND_WANTS_ROOM  it must send a byte, and the reply is full
+ *     UND_RUNS        code runs; nothing is taken or sent any more
+ *
+ * It took the input's first `taken` bytes; the others are shown to the next call again, before any newer ones. What is
+ * to be sent are the reply's first `sent` bytes; those past them keep their contents. How the stream is cut into calls,
+ * and how much room each has, changes nothing in what the session takes, sends and stores in the end.
+ *
+ * A refused call has standing 0, has taken and sent nothing, and has written nothing, the record included.
+ *
+ * A session may refuse what came over the line. The call's number is 0 all the same; the reason stands in
+ * record[UND_RECORD_REASON] until a later one replaces it. In order of test, with the byte that is sent:
+ *
+ *     reason  sent  cause
+ *     11      15    uartboot: unknown opcode
+ *     12      15    a payload length that the opcode does not have
+ *     13      15    a payload longer than the work buffer
+ *     14      15    verify byte neither 0 nor 1
+ *     15      15    count or size 0
+ *     16      15    a range that does not lie wholly in its memory
+ *     17      15    an answer longer than the work buffer
+ *     18      15    flash differs from the data of a Direct write; what was stored stays
+ *     19      15    the host's CRC of an answer differs
+ *     20      none  a byte other than 06 after a payload's CRC (the command is not executed) or an answer's length
+ *     31      15    receiver: a header that does not begin with 01
+ *     32      15    kind P: code length 0
+ *     33      15    code length above the RAM's
+ *     34      none  a byte other than 06 after the XOR; the code stays in RAM and does not run
+ */
+
+/* A report's standing. */
+enum {
+    UND_WANTS_BYTE = 1,
+    UND_WANTS_ROOM = 2,
+    UND_RUNS = 3
+};
+
+typedef struct {
+    uint32_t number;
+    uint32_t standing; /* 0 when refused */
+    size_t taken;      /* how many bytes of the input */
+    size_t sent;       /* how many bytes of the reply */
+} und_report;
+
+/* A record's words. C may read them, and hands them back as they came. Those that a phase does not use are 0. */
+enum {
+    UND_RECORD_KIND = 0,   /* UND_KIND_P, UND_KIND_E or UND_KIND_UARTBOOT */
+    UND_RECORD_PHASE = 1,  /* what the session does next: see the tables of phases below */
+    UND_RECORD_OPCODE = 2, /* uartboot: the command's */
+    UND_RECORD_LENGTH = 3, /* of the code, the payload or the answer */
+    UND_RECORD_PLACE = 4,  /* of the next byte there, from 0 */
+    UND_RECORD_HELD = 5,   /* the low byte of a number whose high byte comes next, or the address at which code runs */
+    UND_RECORD_REASON = 6, /* the last reason, 0 at first */
+    UND_RECORD_WORDS = 8   /* how many words there are; word 7 is 0 */
+};
+
+/* A record's kind. */
+enum {
+    UND_KIND_P = 0, /* the receiver whose lengths have two bytes (DA1453x) */
+    UND_KIND_E = 1, /* the receiver that has extended lengths too (DA1458x) */
+    UND_KIND_UARTBOOT = 2
+};
+
+/* ---- The boot ROM's receiver ----
+ *
+ * It sends 02, then takes 01 and the code's length (2 bytes). Kind E: if that is 0, it takes two more bytes, and the
+ * length is 65536 plus their number. It sends 06, takes the code, stored in RAM from the first byte on as it arrives,
+ * sends the XOR of all code bytes, and takes one byte. If that is 06, the code runs, at UND_RAM_FIRST. A refused header
+ * gets 15. After that, and after reason 34, it starts again at 02.
+ *
+ *     phase  the receiver                                            words used
+ *     0      sends 02
+ *     1, 2   takes 01, the low byte of the length
+ *     3      takes the high byte of the length                       held
+ *     4      takes the low byte of the extended length (E only)
+ *     5      takes the high byte of the extended length (E only)     held
+ *     6      sends 06                                                length
+ *     7      takes code                                              length, place
+ *     8, 9   sends the XOR, takes the byte after it                  length
+ *     10     sends 15
+ *     11     runs the code
+ */
+
+/* Writes the record of a new receiver, all eight words. The kind is UND_KIND_P or UND_KIND_E; und_rom_call refuses a
+ * record of any other.
+ */
+void und_rom_fresh(uint32_t kind, uint32_t record[8]);
+
+/* A call to a receiver; see "Sessions".
+ *
+ * Number:  0
+ *          2   ram_len is not a length that RAM may have
+ *          4   the record is unsound: an unknown kind, a phase that the kind does not have, in phases 6 to 9 a length
+ *              that is 0 or above ram_len, in phase 7 a place that is not below the length. A record of kind P or E
+ *              that was handed out for a RAM of this length is never refused.
+ * Writes:  the record; the reply's first `sent` bytes; the code bytes that it took, in RAM
+ */
+und_report und_rom_call(uint32_t record[8], const uint8_t *input, size_t input_len, uint8_t *reply, size_t reply_len,
+                        uint8_t *ram, size_t ram_len);
+
+/* ---- The loader uartboot ----
+ *
+ * 1. It sends 02 01 00 03, drops bytes until 01, takes an opcode and the payload's length (2 bytes), sends 06 or 15.
+ * 2. If the length is not 0, it takes the payload into the work buffer, checks it and sends 06 or 15; after 06 it sends
+ *    the payload's CRC-16 (2 bytes) and takes one byte. Only if that is 06, it goes on.
+ * 3. It executes the command, after the checks were made again on what the work buffer then holds. A failure sends 15,
+ *    success without an answer sends nothing.
+ * 4. An answer stands in the work buffer, from its first byte on. It sends the answer's length (2 bytes), takes 06,
+ *    sends the answer, takes the host's CRC-16 of it (2 bytes), and sends 06 if that is right, else 15.
+ * 5. It starts again at 1, as it does after every 15 and every reason 20.
+ *
+ * CRC-16 has polynomial 0x1021, high bit first, start 0xFFFF, no final change. A store in flash leaves old AND new.
+ *
+ *     opcode            payload, with how many bytes each has       effect
+ *     01  Write         RAM address 4, data 1 or more               stores in RAM
+ *     02  Read          RAM address 4, count 2                      answers with RAM bytes
+ *     03  Copy          RAM address 4, count 2, flash offset 4      stores RAM bytes in flash
+ *     04  Erase         flash offset 4, size 4                      sets all sectors that touch the area to FF
+ *     05  Run           RAM address 4                               runs code there
+ *     08  Read QSPI     flash offset 4, count 2                     answers with flash bytes
+ *     0B  Version       none                                        answers with the 7 characters 0.0.0.3
+ *     0C  Chip erase    none                                        sets all flash to FF
+ *     12  Direct write  verify 1, flash offset 4, data 1 or more    stores in flash, and compares if verify is 1
+ *
+ *     phase    uartboot                                              words used
+ *     0        sends 02 01 00 03                                     place
+ *     1, 2     drops bytes until 01, takes the opcode
+ *     3        takes the low byte of the length                      opcode
+ *     4        takes the high byte of the length                     opcode, held
+ *     5        sends the header's 06                                 opcode, length (of the payload)
+ *     6        takes the payload                                     opcode, length, place
+ *     7, 8, 9  sends the payload's 06, its CRC's low and high byte   opcode, length
+ *     10       takes the byte on which the command is executed       opcode, length
+ *     11, 12   sends the answer's length, low and high byte          opcode, length (of the answer)
+ *     13       takes 06                                              opcode, length
+ *     14       sends the answer                                      opcode, length, place
+ *     15       takes the low byte of the host's CRC                  opcode, length
+ *     16       takes its high byte                                   opcode, length, held
+ *     17       sends 06                                              opcode, length
+ *     18       sends 15
+ *     19       runs code                                             held (the address)
+ */
+
+/* Writes the record of a new uartboot session, all eight words. */
+void und_uartboot_fresh(uint32_t record[8]);
+
+/* A call to a uartboot session; see "Sessions". The work buffer holds the payload, later the answer: its length is the
+ * most that either may have.
+ *
+ * Number:  0
+ *          1   work_len is not a length that a work buffer may have
+ *          2   ram_len is not a length that RAM may have
+ *          3   flash_len is not a length that flash may have
+ *          4   the record is unsound: a kind that is not UND_KIND_UARTBOOT, an unknown phase, in phases 5 to 17 an
+ *              unknown opcode, a phase or a payload length that the opcode does not have, a length above work_len or an
+ *              answer of length 0, in phases 6 and 14 a place that is not below the length, in phase 0 one that is not
+ *              below 4, in phase 19 an address outside of RAM. A record that was handed out for memories of these
+ *              lengths is never refused.
+ * Writes:  the record; the reply's first `sent` bytes; RAM, flash and work buffer as the commands say
+ */
+und_report und_uartboot_call(uint32_t record[8], const uint8_t *input, size_t input_len, uint8_t *reply,
+                             size_t reply_len, uint8_t *ram, size_t ram_len, uint8_t *flash, size_t flash_len,
+                             uint8_t *work, size_t work_len);
+
+/* Example: a uartboot session. read_line waits for bytes from the host and gives how many it read, 0 at the line's end;
+ * write_line sends bytes to the host.
+ *
+ *     // Serves a host until code runs. Gives the address that runs, or 0 where a call is refused or the line ends.
+ *     uint32_t serve(uint8_t *ram, size_t ram_len, uint8_t *flash, size_t flash_len)
+ *     {
+ *         uint32_t record[UND_RECORD_WORDS];
+ *         uint8_t work[1024], reply[64], line[64];
+ *         const uint8_t *input = line;
+ *         size_t input_len = 0;
+ *
+ *         und_uartboot_fresh(record);
+ *         for (;;) {
+ *             und_report r = und_uartboot_call(record, input, input_len, reply, sizeof reply,
+ *                                              ram, ram_len, flash, flash_len, work, sizeof work);
+ *             if (r.number != 0)
+ *                 return 0;
+ *             write_line(reply, r.sent);
+ *             input += r.taken;
+ *             input_len -= r.taken;
+ *             if (r.standing == UND_RUNS)
+ *                 return record[UND_RECORD_HELD];
+ *             if (r.standing == UND_WANTS_BYTE) {  // all input is taken
+ *                 input = line;
+ *                 input_len = read_line(line, sizeof line);
+ *                 if (input_len == 0)
+ *                     return 0;
+ *             }                                    // else the reply was full, and there is room again
+ *         }
+ *     }
+ */
+
+/* ---- Boot frames ----
+ *
+ * What a host sends to a receiver: 01, the shortest length field that its kind has for the code, the code, 06. A fresh
+ * receiver of that kind with RAM enough, fed the frame, has the code in RAM and runs it.
+ */
+
+typedef struct {
+    uint32_t number;
+    size_t length; /* of the frame; 0 when refused */
+} und_framed;
+
+/* Writes the boot frame of a code for kind P: code_len + 4 bytes.
+ *
+ * Number:  0
+ *          41  code_len is 0
+ *          42  code_len is above 65535
+ *          43  out_len is less than the frame's length
+ * Writes:  the first `length` bytes of out; those past them keep their contents
+ */
+und_framed und_frame_p(const uint8_t *code, size_t code_len, uint8_t *out, size_t out_len);
+
+/* Writes the boot frame of a code for kind E: code_len + 4 bytes, or code_len + 6 where code_len is 65536 or more.
+ *
+ * Number:  0
+ *          41  code_len is 0
+ *          42  code_len is above 131071
+ *          43  out_len is less than the frame's length
+ * Writes:  the first `length` bytes of out; those past them keep their contents
+ */
+und_framed und_frame_e(const uint8_t *code, size_t code_len, uint8_t *out, size_t out_len);
+
+#ifdef __cplusplus
+}
+#endif
+
+#endif
