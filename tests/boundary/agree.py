@@ -1,0 +1,104 @@
+#!/usr/bin/env python3
+"""Whether undalisho.h, README.md, the Rattle sources and the archive have the same functions and structs.
+
+agree.py ROOT ARCHIVE
+"""
+import os
+import subprocess
+import sys
+import tempfile
+from pathlib import Path
+
+import header_names
+import quoted
+import signatures
+
+GCC = ["gcc", "-Wall", "-Wextra", "-Wpedantic", "-Werror"]
+
+# size_t is one fixed-width type in the first and another in the second, so it is told from both.
+MACHINES = [["-m64"], ["-m32", "-ffreestanding"]]
+
+CLAIMS = Path(__file__).with_name("claims.c")
+
+
+class Differs(Exception):
+    """What does not agree."""
+
+
+def run(where, command, **words):
+    ran = subprocess.run(command, capture_output=True, text=True, env={**os.environ, "LC_ALL": "C"}, **words)
+    if ran.returncode != 0:
+        raise Differs(f"{where}:\n{ran.stdout}{ran.stderr}")
+    return ran.stdout
+
+
+def same_names(where, names, others):
+    """Refuses names that are not those of the Rattle sources, the others."""
+    if names != others:
+        more, missing = sorted(set(names) - set(others)), sorted(set(others) - set(names))
+        raise Differs(f"{where} has {more or 'nothing'} that the sources do not have, and lacks {missing or 'nothing'}")
+
+
+def check_archive(functions, archive):
+    """The archive's global symbols are the functions, and no other."""
+    lines = run("the archive", ["nm", "-g", "--defined-only", str(archive)]).splitlines()
+    symbols = [line.split()[1:] for line in lines if len(line.split()) == 3]
+    names = sorted(f"function {name}" if kind == "T" else f"{kind} {name}" for kind, name in symbols)
+    same_names("the archive", names, signatures.names_of(functions, []))
+
+
+def check_header(functions, structs, header, where):
+    c = signatures.c_file(functions, structs)
+    for machine in MACHINES:
+        run(where, [*GCC, *machine, "-std=c11", "-fsyntax-only", "-I", str(header.parent), "-x", "c", "-"], input=c)
+    try:
+        names = header_names.names_of(header)
+    except ValueError as error:
+        raise Differs(str(error)) from None
+    same_names(where, names, signatures.names_of(functions, structs))
+    wanted = signatures.parameter_names(functions)
+    for name, given in header_names.parameter_names(header).items():
+        if given != wanted[name]:
+            raise Differs(f"{where} gives {name} the parameters {given}, the sources {wanted[name]}")
+
+
+def check_readme(functions, structs, root, folder):
+    """README's declarations, held to the Rattle sources as the header is."""
+    header = folder / "undalisho.h"
+    header.write_text("#include <stddef.h>\n#include <stdint.h>\n" + quoted.readme_blocks(root)[0])
+    check_header(functions, structs, header, "README.md")
+
+
+def check_claims(include, archive, folder):
+    program = str(folder / "claims")
+    run("the header", [*GCC, "-std=c99", "-I", str(include), str(CLAIMS), str(archive), "-o", program])
+    run("the header", [program])
+
+
+def agree(root, archive):
+    """How many functions and structs there are, or Differs."""
+    try:
+        functions, structs = signatures.boundary_of(root)
+    except signatures.Unknown as unknown:
+        raise Differs(f"signatures: {unknown}") from None
+    include = Path(root) / "include"
+    with tempfile.TemporaryDirectory() as folder:
+        check_header(functions, structs, include / "undalisho.h", "the header")
+        check_archive(functions, archive)
+        check_readme(functions, structs, root, Path(folder))
+        check_claims(include, archive, Path(folder))
+    return len(functions), len(structs)
+
+
+def main():
+    if len(sys.argv) != 3:
+        sys.exit(__doc__)
+    try:
+        functions, structs = agree(*sys.argv[1:])
+    except Differs as differs:
+        sys.exit(f"boundary: header, README, Rattle sources and archive do not agree:\n{differs}")
+    print(f"boundary: {functions} functions, {structs} structs agree in header, README, Rattle sources and archive")
+
+
+if __name__ == "__main__":
+    main()

@@ -1,0 +1,56 @@
+/* A program over the installed library, compiled as C and as C++. It calls each function. */
+#include <undalisho.h>
+
+#include <stdio.h>
+#include <string.h>
+
+static const uint8_t code[] = {0x11, 0x22, 0x44};
+static uint8_t ram[16], flash[UND_FLASH_SECTOR], work[UND_WORK_MIN], frame[16], reply[16];
+static uint32_t record[UND_RECORD_WORDS];
+
+static int versions(void)
+{
+    const uint8_t low[16] = {'1', '.', '9'}, high[16] = {'1', '.', '1', '0'};
+
+    return und_rank(high, 16).rank[1] == 10 && und_order(low, 16, high, 16).order == -1;
+}
+
+static int images(void)
+{
+    return und_select(flash, sizeof flash, 0).number == 52 && und_offer(flash, 64, flash + 64, 64).number == 62;
+}
+
+static int runs(uint32_t kind, und_framed framed)
+{
+    und_report r;
+
+    memset(ram, 0, sizeof ram);
+    und_rom_fresh(kind, record);
+    r = und_rom_call(record, frame, framed.length, reply, sizeof reply, ram, sizeof ram);
+    return r.standing == UND_RUNS && r.sent == 3 && reply[2] == 0x77 && memcmp(ram, code, sizeof code) == 0;
+}
+
+static int receivers(void)
+{
+    return runs(UND_KIND_P, und_frame_p(code, sizeof code, frame, sizeof frame)) &&
+           runs(UND_KIND_E, und_frame_e(code, sizeof code, frame, sizeof frame));
+}
+
+static int uartboot(void)
+{
+    static const uint8_t erase[] = {0x01, 0x04, 0x07, 0x00}, replies[] = {2, 1, 0, 3, 0x15, 2, 1, 0, 3};
+    und_report r;
+
+    und_uartboot_fresh(record);
+    r = und_uartboot_call(record, erase, sizeof erase, reply, sizeof reply, ram, sizeof ram, flash, sizeof flash, work,
+                          sizeof work);
+    return r.sent == sizeof replies && memcmp(reply, replies, sizeof replies) == 0 && record[UND_RECORD_REASON] == 12;
+}
+
+int main(void)
+{
+    if (versions() && images() && receivers() && uartboot())
+        return 0;
+    fprintf(stderr, "installed: the library answers otherwise\n");
+    return 1;
+}

@@ -1,0 +1,174 @@
+#!/usr/bin/env python3
+"""Wrong edits of the header, README, the Rattle sources and the archive, each made in a copy: agree.py has to refuse each
+of them, for the right reason.
+
+wrong_edits.py ROOT ARCHIVE
+"""
+import re
+import shutil
+import subprocess
+import sys
+import tempfile
+from pathlib import Path
+
+from agree import Differs, agree
+
+HEADER, README = "include/undalisho.h", "README.md"
+CAPI, FRAME, OFFER = "crates/capi/src/lib.rt", "crates/frame/src/lib.rt", "crates/offer/src/lib.rt"
+RANK, ORDER = "crates/version/src/rank.rt", "crates/version/src/order.rt"
+
+# By file: what is wrong, what stands there once, what is put in its place, what the refusal says (a regular expression).
+EDITS = {
+    HEADER: [
+        # Parameters and results.
+        ("parameter of 64 bits", "uint32_t header_offset", "uint64_t header_offset", "conflicting types for 'und_select'"),
+        ("parameter with a sign", "uint32_t header_offset", "int32_t header_offset", "conflicting types for 'und_select'"),
+        ("length of 32 bits", "size_t field_len", "uint32_t field_len", "conflicting types for 'und_rank'"),
+        ("length of 64 bits on any machine", "size_t field_len", "uint64_t field_len", "conflicting types for 'und_rank'"),
+        ("parameters swapped", "uint32_t kind, uint32_t record[8]", "uint32_t record[8], uint32_t kind",
+         "conflicting types for 'und_rom_fresh'"),
+        ("length before its pointer", "const uint8_t *field, size_t field_len", "size_t field_len, const uint8_t *field",
+         "conflicting types for 'und_rank'"),
+        ("parameter left out", ", size_t field_len", "", "conflicting types for 'und_rank'"),
+        ("parameter added", "size_t field_len", "size_t field_len, uint32_t more", "conflicting types for 'und_rank'"),
+        ("const dropped", "(const uint8_t *field", "(uint8_t *field", "conflicting types for 'und_rank'"),
+        ("const added", "uint8_t *work, size_t", "const uint8_t *work, size_t", "conflicting types for 'und_uartboot_call'"),
+        ("record that is only read", "uartboot_fresh(uint32_t record[8])", "uartboot_fresh(const uint32_t record[8])",
+         "conflicting types for 'und_uartboot_fresh'"),
+        ("record of other words", "uartboot_fresh(uint32_t record[8])", "uartboot_fresh(uint64_t record[8])",
+         "conflicting types for 'und_uartboot_fresh'"),
+        ("record of nine words", "uartboot_fresh(uint32_t record[8])", "uartboot_fresh(uint32_t record[9])",
+         r"argument 1 of type 'uint32_t\[8\]'.* with mismatched bound"),
+        ("other struct as result", "und_framed und_frame_e(", "und_ranked und_frame_e(",
+         "conflicting types for 'und_frame_e'"),
+        ("result where there is none", "void und_uartboot_fresh(", "uint32_t und_uartboot_fresh(",
+         "conflicting types for 'und_uartboot_fresh'"),
+        ("lent memories swapped", "uint8_t *installed, size_t installed_len, const uint8_t *candidate, size_t candidate_len",
+         "uint8_t *candidate, size_t candidate_len, const uint8_t *installed, size_t installed_len",
+         "the header gives und_offer the parameters"),
+        # Structs.
+        ("fields swapped", "uint32_t number;\n    uint32_t slot;", "uint32_t slot;\n    uint32_t number;",
+         'static assertion failed: "und_selected.number: place"'),
+        ("fields of two widths swapped", "uint32_t number;\n    size_t length;", "size_t length;\n    uint32_t number;",
+         'static assertion failed: "und_framed.number: place"'),
+        ("field without its sign", " int32_t order;", " uint32_t order;",
+         'static assertion failed: "und_ordered.order: type"'),
+        ("field of 32 bits", "size_t length;", "uint32_t length;", 'static assertion failed: "und_framed.length: type"'),
+        ("field of 64 bits on any machine", "size_t taken;", "uint64_t taken;",
+         'static assertion failed: "und_report.taken: type"'),
+        ("longer array", "rank[4]", "rank[5]", 'static assertion failed: "und_ranked.rank: type"'),
+        ("field renamed", "uint32_t slot;", "uint32_t image;", "'und_selected' has no member named 'slot'"),
+        ("field left out", "size_t size;", "", "'und_offered' has no member named 'size'"),
+        ("field added at the end", " int32_t order;", " int32_t order, more;",
+         'static assertion failed: "und_ordered: size"'),
+        ("field added where C leaves a gap", "size_t length;", "uint32_t more;\n    size_t length;",
+         "missing initializer for field 'length' of 'und_framed'"),
+        # Names.
+        ("struct added", "/* ---- Versions", "typedef struct { int more; } und_more;\n/* ---- Versions",
+         "the header has .'struct und_more'. that"),
+        ("function left out", "und_ranked und_rank(const uint8_t *field, size_t field_len);", "",
+         "lacks .'function und_rank'."),
+        ("function added", "/* ---- Versions", "void und_more(void);\n/* ---- Versions",
+         "the header has .'function und_more'. that"),
+        ("function renamed", "und_ranked und_rank(", "und_ranked und_ranks(",
+         "the header has .'function und_ranks'. that .*lacks .'function und_rank'."),
+        ("variable added", "/* ---- Versions", "extern int und_state;\n/* ---- Versions",
+         "'extern int und_state' is neither"),
+        # Constants.
+        ("wrong kind", "UND_KIND_E = 1", "UND_KIND_E = 0", "not so: .*UND_KIND_E"),
+        ("wrong standing", "UND_WANTS_ROOM = 2", "UND_WANTS_ROOM = 3", "not so: .*UND_WANTS_ROOM"),
+        ("wrong word", "UND_RECORD_PLACE = 4", "UND_RECORD_PLACE = 5", "not so: .*UND_RECORD_PLACE"),
+        ("too few words", "UND_RECORD_WORDS = 8", "UND_RECORD_WORDS = 7", "not so: .*UND_RECORD_WORDS"),
+        ("wrong file", "UND_FILE_CANDIDATE = 2", "UND_FILE_CANDIDATE = 1", "not so: .*UND_FILE_CANDIDATE"),
+        ("wrong length of RAM", "UND_RAM_MAX = 131072", "UND_RAM_MAX = 131071", "not so: .*UND_RAM_MAX"),
+        ("wrong length of flash", "UND_FLASH_MAX = 4194304", "UND_FLASH_MAX = 4190208", "not so: .*UND_FLASH_MAX"),
+        ("wrong sector", "UND_FLASH_SECTOR = 4096", "UND_FLASH_SECTOR = 8192", "not so: .*UND_FLASH_SECTOR"),
+        ("wrong length of the work buffer", "UND_WORK_MIN = 64", "UND_WORK_MIN = 65", "not so: .*UND_WORK_MIN"),
+        ("wrong address", "UND_RAM_FIRST = 0x07FC0000", "UND_RAM_FIRST = 0x07FC0001", "not so: .*UND_RAM_FIRST"),
+    ],
+    README: [
+        ("const dropped", "und_rank(const uint8_t *", "und_rank(uint8_t *",
+         "(?s)^README.md:.* conflicting types for 'und_rank'"),
+        ("fields swapped", "{ uint32_t number, slot; }", "{ uint32_t slot, number; }",
+         '(?s)^README.md:.* static assertion failed: "und_selected.number: place"'),
+        ("function left out", "void         und_uartboot_fresh(uint32_t record[8]);", "",
+         "README.md .*lacks .'function und_uartboot_fresh'."),
+    ],
+    CAPI: [
+        ("lent memories swapped", "installed: &[u8], candidate: &[u8]", "candidate: &[u8], installed: &[u8]",
+         "the header gives und_offer the parameters"),
+        ("slice that is written", "und_rank(field: &[u8])", "und_rank(field: &mut [u8])",
+         "conflicting types for 'und_rank'"),
+        ("unknown parameter", "kind: u32,", "kind: u128,", "the parameter 'kind: u128' has a type that is not known"),
+        ("unknown reference", "field: &[u8]", "field: &u8", "the parameter 'field: &u8' has a type that is not known"),
+        ("unknown result", ") -> Ranked", ") -> bool", "the result type 'bool' is not known"),
+        ("function that has no name for C", '#[no_mangle]\npub extern "C" fn und_rank', 'pub extern "C" fn und_rank',
+         'not every extern "C" has the form'),
+        ("function renamed", "fn und_rank(", "fn und_ranks(", "lacks .'function und_ranks'."),
+    ],
+    FRAME: [("unknown field", "pub length: usize,", "pub length: u128,", "'u128' is neither defined here in a form that")],
+    OFFER: [("layout that is not C's", "#[repr(C)]\n", "", "'Offered' is neither defined here in a form that is known")],
+    ORDER: [("fields swapped", "pub number: u32,\n    pub order: i32,", "pub order: i32,\n    pub number: u32,",
+             'static assertion failed: "und_ordered.order: place"')],
+    RANK: [("longer array", "NUMBERS: usize = 4", "NUMBERS: usize = 5",
+            'static assertion failed: "und_ranked.rank: type"')],
+}
+
+# What is wrong, what objcopy is told, what the refusal says.
+ARCHIVES = [
+    ("function left out", "--localize-symbol=und_rank", "the archive .*lacks .'function und_rank'."),
+    ("function renamed", "--redefine-sym=und_rank=und_ranks", "the archive has .'function und_ranks'."),
+    ("variable added", "--add-symbol=und_state=.rodata.und_rom_call:0,global,object", "the archive has .'R und_state'."),
+]
+
+
+def copy_of(root, tree):
+    """The files that agree.py reads."""
+    for path in [Path(root, HEADER), Path(root, README), *Path(root).glob("crates/*/src/**/*.rt")]:
+        copy = tree / path.relative_to(root)
+        copy.parent.mkdir(parents=True, exist_ok=True)
+        shutil.copyfile(path, copy)
+
+
+def expect_refusal(what, says, tree, archive):
+    try:
+        agree(tree, archive)
+    except Differs as differs:
+        if not re.search(says, str(differs)):
+            sys.exit(f"boundary: a wrong edit was refused, but not with '{says}': {what}\n{differs}")
+        return
+    sys.exit(f"boundary: a wrong edit was not refused: {what}")
+
+
+def try_edit(tree, archive, name, what, old, new, says):
+    path = tree / name
+    text = path.read_text()
+    if text.count(old) != 1:
+        sys.exit(f"boundary: the wrong edit '{what}' of {name} wants '{old}' to stand there once")
+    path.write_text(text.replace(old, new))
+    expect_refusal(f"{name}: {what}", says, tree, archive)
+    path.write_text(text)
+
+
+def try_archive(tree, archive, what, word, says):
+    wrong = tree / "wrong.a"
+    subprocess.run(["objcopy", word, archive, str(wrong)], check=True)
+    expect_refusal(f"archive: {what}", says, tree, wrong)
+
+
+def main():
+    if len(sys.argv) != 3:
+        sys.exit(__doc__)
+    root, archive = sys.argv[1:]
+    edits = [(name, *edit) for name, its in EDITS.items() for edit in its]
+    with tempfile.TemporaryDirectory() as folder:
+        copy_of(root, Path(folder))
+        for edit in edits:
+            try_edit(Path(folder), archive, *edit)
+        for edit in ARCHIVES:
+            try_archive(Path(folder), archive, *edit)
+    print(f"boundary: {len(edits) + len(ARCHIVES)} wrong edits of header, README, Rattle sources and archive refused")
+
+
+if __name__ == "__main__":
+    main()
