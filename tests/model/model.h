@@ -1,0 +1,115 @@
+/* An independent model of the boot line: what every function over the C boundary must give.
+   It is written from the rules alone and shares no text with the library. */
+#ifndef MODEL_H
+#define MODEL_H
+
+#include <stdbool.h>
+#include <stddef.h>
+#include <stdint.h>
+
+/* Checksums. */
+uint16_t model_crc16(const uint8_t *bytes, size_t count);
+uint32_t model_crc32(const uint8_t *bytes, size_t count);
+
+/* Versions. */
+typedef struct {
+    uint32_t number, rank[4];
+} model_ranked;
+
+typedef struct {
+    uint32_t number;
+    int32_t order;
+} model_ordered;
+
+model_ranked model_rank(const uint8_t *field, size_t length);
+model_ordered model_order(const uint8_t *a, size_t a_length, const uint8_t *b, size_t b_length);
+
+/* Images, the slot that will start, offers. */
+enum { PRODUCT_HEADER = 12, IMAGE_HEADER = 64, VERSION_FIELD = 16, MOST_CODE = 131072 };
+
+typedef struct {
+    uint32_t number, slot;
+} model_selected;
+
+typedef struct {
+    uint32_t number, file;
+    size_t place, size;
+} model_offered;
+
+model_selected model_select(const uint8_t *flash, size_t length, uint32_t header);
+model_offered model_offer(const uint8_t *installed, size_t installed_length, const uint8_t *candidate, size_t candidate_length);
+
+/* Sessions. A record is eight words. */
+enum { KIND_P, KIND_E, KIND_UARTBOOT };
+enum { WORD_KIND, WORD_PHASE, WORD_OPCODE, WORD_LENGTH, WORD_PLACE, WORD_HELD, WORD_REASON, WORD_SPARE, WORDS };
+enum { WANTS_BYTE = 1, WANTS_ROOM = 2, RUNS = 3 };
+enum { RAM_BASE = 0x07FC0000, MOST_RAM = 131072, SECTOR = 4096, MOST_FLASH = 4194304, LEAST_WORK = 64, MOST_WORK = 65535 };
+enum { ACK = 0x06, NAK = 0x15 };
+
+typedef struct {
+    uint8_t *ram, *flash, *work; /* the receiver has RAM alone */
+    size_t ram_length, flash_length, work_length;
+} model_memories;
+
+/* Input that is shown to a call, and its reply room. */
+typedef struct {
+    const uint8_t *input;
+    size_t shown, taken;
+    uint8_t *reply;
+    size_t room, sent;
+} model_line;
+
+typedef struct {
+    uint32_t number, standing;
+    size_t taken, sent;
+} model_report;
+
+bool model_ram_length(size_t length);
+bool model_flash_length(size_t length);
+bool model_work_length(size_t length);
+
+void model_fresh(uint32_t kind, uint32_t record[WORDS]);
+/* A call to a receiver, or to uartboot; line->taken and line->sent are 0 at first. */
+model_report model_rom_call(uint32_t record[WORDS], model_line *line, const model_memories *memories);
+model_report model_uartboot_call(uint32_t record[WORDS], model_line *line, const model_memories *memories);
+
+/* uartboot's commands. */
+enum {
+    OP_WRITE = 0x01, OP_READ = 0x02, OP_COPY = 0x03, OP_ERASE = 0x04, OP_RUN = 0x05,
+    OP_READ_QSPI = 0x08, OP_VERSION = 0x0B, OP_CHIP_ERASE = 0x0C, OP_DIRECT_WRITE = 0x12
+};
+
+typedef struct {
+    uint32_t reason;  /* 0, or why it failed */
+    uint32_t answer;  /* bytes of answer at the front of the work buffer */
+    bool runs;
+    uint32_t address; /* where code runs */
+} model_outcome;
+
+bool model_known(uint32_t opcode);
+bool model_has_length(uint32_t opcode, uint64_t length);
+bool model_has_answer(uint32_t opcode);
+/* The reason against the payload of `length` bytes in the work buffer, or 0. */
+uint32_t model_judge(uint32_t opcode, uint32_t length, const model_memories *memories);
+model_outcome model_execute(uint32_t opcode, uint32_t length, const model_memories *memories);
+
+/* The whole stream at once, with room for every reply, from a fresh session: no phases, no record. */
+typedef struct {
+    uint8_t *replies;
+    size_t taken, sent;
+    uint32_t reason;
+    bool runs;
+} model_ending;
+
+/* Writes the memories. The caller frees `replies`. */
+model_ending model_uncut(uint32_t kind, const uint8_t *stream, size_t length, const model_memories *memories);
+
+/* The boot frame. */
+typedef struct {
+    uint32_t number;
+    size_t length;
+} model_framed;
+
+model_framed model_frame(uint32_t kind, const uint8_t *code, size_t length, uint8_t *out, size_t room);
+
+#endif
