@@ -1,0 +1,33 @@
+/* A session twice: the library's on lent memory, the model's beside it. Each call goes to both and everything is compared. */
+#ifndef DESK_H
+#define DESK_H
+
+#include "model.h"
+#include "trial.h"
+
+/* What a session starts with. The contents stay; a desk has copies. */
+typedef struct {
+    uint32_t kind;
+    model_memories contents;
+    uint32_t record[WORDS];
+} setting;
+
+typedef struct {
+    uint32_t kind;
+    model_memories library, model;
+    uint32_t *record; /* the library's */
+    uint32_t model_record[WORDS];
+    bool at_end;        /* where on its shelf memory is lent */
+    bool null_if_empty; /* what is empty is lent as NULL */
+} desk;
+
+void desk_set(trial *t, desk *d, const setting *s);
+/* Shows so many bytes to both sessions and gives room for so many. The reply stays where it is until the next call. */
+model_report desk_call(trial *t, desk *d, const uint8_t *input, size_t shown, size_t room, const uint8_t **reply);
+
+/* Memory for contents, as long as any length that is tried. One set for each use. */
+enum { FIRST_CONTENTS, LEAD_CONTENTS, EXPECTED_CONTENTS, CONTENTS };
+model_memories contents_of(int use, size_t ram_length, size_t flash_length, size_t work_length);
+void copy_contents(model_memories *to, const model_memories *from);
+
+#endif

@@ -1,0 +1,148 @@
+#include "figures.h"
+#include "desk.h"
+#include "fill.h"
+#include "undalisho.h"
+
+#include <string.h>
+
+static void field_of(const char *text, uint8_t field[VERSION_FIELD])
+{
+    memset(field, 0, VERSION_FIELD);
+    memcpy(field, text, strlen(text));
+}
+
+static void order_figure(trial *t, const char *a, const char *b, uint32_t number, int32_t order)
+{
+    uint8_t left[VERSION_FIELD], right[VERSION_FIELD];
+    field_of(a, left);
+    field_of(b, right);
+    und_ordered got = und_order(left, sizeof left, right, sizeof right);
+    model_ordered model = model_order(left, sizeof left, right, sizeof right);
+    if (got.number != number || got.order != order || model.number != number || model.order != order)
+        differ(t, "figure: order of '%s' and '%s'", a, b);
+}
+
+static void version_figures(trial *t)
+{
+    order_figure(t, "1.9", "1.10", 0, -1);
+    order_figure(t, "1.9", "1.9.0", 0, 0);
+    order_figure(t, "65535.65535.6553", "65535.65535.6553", 0, 0);
+    order_figure(t, "01.2", "1.9", 61, 0);
+    order_figure(t, "", "1.9", 61, 0);
+    order_figure(t, "1.65536", "1.9", 61, 0);
+    order_figure(t, "1..2", "1.9", 61, 0);
+}
+
+static void image_with_id(uint8_t *bytes, uint8_t id)
+{
+    memcpy(bytes, (const uint8_t[]){0x70, 0x51, 0xAA, id, 1}, 5);
+    bytes[IMAGE_HEADER] = 0x5A;
+    put_little(bytes + 8, 4, model_crc32(bytes + IMAGE_HEADER, 1));
+}
+
+static void slot_figure(trial *t, uint8_t first, uint8_t second, uint32_t slot)
+{
+    static uint8_t flash[SECTOR];
+    memset(flash, 0, sizeof flash);
+    memcpy(flash, (const uint8_t[]){0x70, 0x52, 0, 0, 0x00, 0x01, 0, 0, 0x00, 0x02, 0, 0}, PRODUCT_HEADER);
+    image_with_id(flash + 0x100, first);
+    image_with_id(flash + 0x200, second);
+    und_selected got = und_select(flash, sizeof flash, 0);
+    model_selected model = model_select(flash, sizeof flash, 0);
+    if (got.number != 0 || got.slot != slot || model.number != 0 || model.slot != slot)
+        differ(t, "figure: slot for ids %u and %u", first, second);
+}
+
+static void checksum_figures(trial *t)
+{
+    static const uint8_t digits[] = {'1', '2', '3', '4', '5', '6', '7', '8', '9'};
+    if (model_crc16(digits, sizeof digits) != 0x29B1 || model_crc32(digits, sizeof digits) != 0xCBF43926)
+        differ(t, "figure: CRC of 123456789");
+}
+
+/* A host's bytes in one call: the device's bytes, and what the record then holds. The desk stays for a look at its memories. */
+typedef struct {
+    uint32_t kind;
+    size_t ram_length, flash_length, work_length;
+    const char *host;
+    size_t host_length;
+    const char *device;
+    size_t device_length;
+    uint32_t phase, length, reason;
+} exchange;
+
+#define BYTES(text) text, sizeof(text) - 1
+
+static void exchange_figure(trial *t, desk *d, const exchange *x)
+{
+    setting s = {.kind = x->kind};
+    const uint8_t *reply;
+    s.contents = contents_of(FIRST_CONTENTS, x->ram_length, x->flash_length, x->work_length);
+    memset(s.contents.ram, 0, x->ram_length);
+    memset(s.contents.flash, 0xF0, x->flash_length);
+    memset(s.contents.work, 0, x->work_length);
+    model_fresh(x->kind, s.record);
+    desk_set(t, d, &s);
+    model_report got = desk_call(t, d, (const uint8_t *)x->host, x->host_length, 64, &reply);
+    bool same = got.taken == x->host_length && got.sent == x->device_length && memcmp(reply, x->device, x->device_length) == 0;
+    if (!same || d->record[WORD_PHASE] != x->phase || d->record[WORD_LENGTH] != x->length || d->record[WORD_REASON] != x->reason)
+        differ(t, "figure: exchange of kind %u that ends in phase %u", x->kind, x->phase);
+}
+
+static void exchange_figures(trial *t)
+{
+    static const exchange figures[] = {
+        {KIND_P, 16, 0, 0, BYTES("\x01\x03\x00\x11\x22\x44\x06"), BYTES("\x02\x06\x77"), 11, 0, 0},
+        {KIND_E, 131072, 0, 0, BYTES("\x01\x00\x00\x00\x00"), BYTES("\x02\x06"), 7, 65536, 0},
+        {KIND_E, 131072, 0, 0, BYTES("\x01\x00\x00\x01\x00"), BYTES("\x02\x06"), 7, 65537, 0},
+        {KIND_E, 131072, 0, 0, BYTES("\x01\xFF\xFF"), BYTES("\x02\x06"), 7, 65535, 0},
+        {KIND_UARTBOOT, 1, 4096, 64, BYTES("\x01\x04\x07\x00"), BYTES("\x02\x01\x00\x03\x15\x02\x01\x00\x03"), 1, 0, 12},
+        {KIND_UARTBOOT, 1, 4096, 64, BYTES("\x01\x0B\x00\x00\x06"), BYTES("\x02\x01\x00\x03\x06\x07\x00" "0.0.0.3"), 15, 7, 0},
+    };
+    desk d;
+    for (size_t i = 0; i < sizeof figures / sizeof *figures; i++)
+        exchange_figure(t, &d, &figures[i]);
+}
+
+/* A command with a payload that is executed: both sides' flash, which held F0, is then as given. */
+static void flash_figure(trial *t, const char *name, const uint8_t *payload, uint8_t opcode, uint8_t length, const uint8_t *flash)
+{
+    enum { FLASH = 3 * SECTOR };
+    uint8_t host[32] = {0x01, opcode, length, 0};
+    setting s = {.kind = KIND_UARTBOOT, .contents = contents_of(FIRST_CONTENTS, 1, FLASH, 64)};
+    const uint8_t *reply;
+    desk d;
+    memset(s.contents.ram, 0, 1);
+    memset(s.contents.flash, 0xF0, FLASH);
+    memset(s.contents.work, 0, 64);
+    memcpy(host + 4, payload, length);
+    host[4 + length] = ACK;
+    model_fresh(KIND_UARTBOOT, s.record);
+    desk_set(t, &d, &s);
+    desk_call(t, &d, host, 5u + length, 64, &reply);
+    if (memcmp(d.library.flash, flash, FLASH) != 0 || memcmp(d.model.flash, flash, FLASH) != 0)
+        differ(t, "figure: %s", name);
+}
+
+static void flash_figures(trial *t)
+{
+    static uint8_t flash[3 * SECTOR];
+    memset(flash, 0xF0, sizeof flash);
+    flash[0] = 0x30;
+    flash_figure(t, "3C stored over F0", (const uint8_t[]){0, 0, 0, 0, 0, 0x3C}, OP_DIRECT_WRITE, 6, flash);
+    memset(flash, 0xFF, 2 * SECTOR);
+    flash_figure(t, "erase of 2 from 4,095", (const uint8_t[]){0xFF, 0x0F, 0, 0, 2, 0, 0, 0}, OP_ERASE, 8, flash);
+    memset(flash, 0xF0, SECTOR);
+    flash_figure(t, "erase of 4,096 from 4,096", (const uint8_t[]){0, 0x10, 0, 0, 0, 0x10, 0, 0}, OP_ERASE, 8, flash);
+}
+
+void run_figures(trial *t)
+{
+    version_figures(t);
+    slot_figure(t, 9, 10, 2);
+    slot_figure(t, 10, 9, 1);
+    slot_figure(t, 7, 7, 1);
+    checksum_figures(t);
+    exchange_figures(t);
+    flash_figures(t);
+}

@@ -1,0 +1,157 @@
+/* Compares the library with the model on many cases, each made from its seed. */
+#define _DEFAULT_SOURCE
+#include "clock.h"
+#include "figures.h"
+#include "seen.h"
+#include "shrink.h"
+#include "trial.h"
+
+#include <inttypes.h>
+#include <setjmp.h>
+#include <signal.h>
+#include <stdio.h>
+#include <stdlib.h>
+#include <string.h>
+#include <sys/time.h>
+
+static const case_kind kinds[] = {
+    {"version", 8, version_case},
+    {"select", 6, select_case},
+    {"offer", 4, offer_case},
+    {"frame", 4, frame_case},
+    {"ROM stream", 8, rom_stream_case},
+    {"uartboot stream", 24, uartboot_stream_case},
+    {"ROM record", 6, rom_record_case},
+    {"uartboot record", 18, uartboot_record_case},
+    {"length", 2, length_case},
+};
+
+enum { KINDS = sizeof kinds / sizeof *kinds, SHRINK_SECONDS = 20, WATCH_SECONDS = 10 };
+
+static uint64_t cases_of[KINDS], all_calls;
+
+/* A case that touches memory that was not lent, or doesn't end, is left here. */
+static sigjmp_buf left;
+static volatile sig_atomic_t running;
+static volatile uint64_t serial;
+
+static void on_fault(int signal)
+{
+    if (running)
+        siglongjmp(left, signal);
+    _Exit(3);
+}
+
+static void on_tick(int signal)
+{
+    static uint64_t last;
+    if (running && serial == last)
+        siglongjmp(left, signal);
+    last = serial;
+}
+
+static void watch(void)
+{
+    struct sigaction fault = {.sa_handler = on_fault, .sa_flags = SA_NODEFER}, tick = {.sa_handler = on_tick};
+    struct itimerval every = {{WATCH_SECONDS, 0}, {WATCH_SECONDS, 0}};
+    sigaction(SIGSEGV, &fault, NULL);
+    sigaction(SIGBUS, &fault, NULL);
+    sigaction(SIGALRM, &tick, NULL);
+    setitimer(ITIMER_REAL, &every, NULL);
+}
+
+static bool figures_hold(void)
+{
+    choices c = {.given = true};
+    trial t = {.c = &c};
+    run_figures(&t);
+    if (differs(&t))
+        printf("%s\n", t.difference);
+    return !differs(&t);
+}
+
+static void run_kind(trial *t)
+{
+    uint32_t total = 0, kind = 0;
+    for (int k = 0; k < KINDS; k++)
+        total += kinds[k].weight;
+    for (uint32_t at = pick(t->c, total); at >= kinds[kind].weight; kind++)
+        at -= kinds[kind].weight;
+    tell(t, "case: %s\n", kinds[kind].name);
+    cases_of[kind]++;
+    kinds[kind].run(t);
+}
+
+/* Runs the case of a list of choices. Gives whether it differs. */
+static bool run_case(choices *c, bool telling)
+{
+    static trial t;
+    t = (trial){.c = c, .telling = telling};
+    serial++;
+    int signal = sigsetjmp(left, 1);
+    if (signal == 0) {
+        running = 1;
+        run_kind(&t);
+    } else {
+        differ(&t, signal == SIGALRM ? "a call does not end" : "memory that was not lent was touched");
+    }
+    running = 0;
+    all_calls += t.calls;
+    return differs(&t);
+}
+
+static bool still_differs(choices *c)
+{
+    return run_case(c, false);
+}
+
+/* Runs the case of a seed; where it differs, shows a shorter one that differs too. */
+static bool run_seed(uint64_t seed, bool telling)
+{
+    static choices c;
+    choices_from_seed(&c, seed);
+    if (!run_case(&c, telling))
+        return true;
+    printf("the case of seed %" PRIu64 " differs (%zu choices); shortened:\n", seed, c.count);
+    fflush(stdout);
+    shrink(&c, still_differs, SHRINK_SECONDS);
+    c.at = 0;
+    run_case(&c, true);
+    printf("(%zu choices) again: tests/run seed %" PRIu64 "\n", c.count, seed);
+    return false;
+}
+
+static void report(uint64_t first, uint64_t count, double seconds)
+{
+    printf("%" PRIu64 " cases, seeds from %" PRIu64 ", %" PRIu64 " calls, %.0f s:", count, first, all_calls, seconds);
+    for (int k = 0; k < KINDS; k++)
+        printf(" %s %" PRIu64 "%s", kinds[k].name, cases_of[k], k + 1 < KINDS ? "," : "\n");
+}
+
+static int run_many(uint64_t first, uint64_t count, double seconds)
+{
+    double start = seconds_now();
+    uint64_t done = 0;
+    while (done < count && (seconds == 0 || seconds_now() - start < seconds)) {
+        if (!run_seed(first + done, false))
+            return 1;
+        done++;
+    }
+    report(first, done, seconds_now() - start);
+    return all_seen() ? 0 : 1;
+}
+
+int main(int argc, char **argv)
+{
+    if (!figures_hold())
+        return 1;
+    watch();
+    if (argc == 3 && strcmp(argv[1], "seed") == 0)
+        return run_seed(strtoull(argv[2], NULL, 10), true) ? 0 : 1;
+    if (argc == 4 && strcmp(argv[1], "cases") == 0)
+        return run_many(strtoull(argv[2], NULL, 10), strtoull(argv[3], NULL, 10), 0);
+    if (argc == 4 && strcmp(argv[1], "seconds") == 0)
+        return run_many(strtoull(argv[2], NULL, 10), UINT64_MAX, strtod(argv[3], NULL));
+    fprintf(stderr, "compare cases FIRST COUNT | seconds FIRST SECONDS | seed SEED\n");
+    return 2;
+}

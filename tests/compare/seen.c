@@ -1,0 +1,40 @@
+#include "seen.h"
+
+#include <stdio.h>
+
+enum { MOST = 128 };
+
+static uint64_t counts[SEENS][MOST];
+
+void seen(seen_what what, uint32_t number)
+{
+    if (number < MOST)
+        counts[what][number]++;
+}
+
+typedef struct {
+    const char *name;
+    int numbers[24]; /* ends with -1 */
+} wanted;
+
+static const wanted all[SEENS] = {
+    [SEEN_NUMBER] = {"number", {0, 1, 2, 3, 4, 41, 42, 43, 51, 52, 53, 61, 62, 63, -1}},
+    [SEEN_REASON] = {"reason", {0, 11, 12, 13, 14, 15, 16, 17, 18, 19, 20, 31, 32, 33, 34, -1}},
+    [SEEN_ROM_P] = {"phase of kind P", {0, 1, 2, 3, 6, 7, 8, 9, 10, 11, -1}},
+    [SEEN_ROM_E] = {"phase of kind E", {0, 1, 2, 3, 4, 5, 6, 7, 8, 9, 10, 11, -1}},
+    [SEEN_UARTBOOT] = {"phase of uartboot", {0, 1, 2, 3, 4, 5, 6, 7, 8, 9, 10, 11, 12, 13, 14, 15, 16, 17, 18, 19, -1}},
+    [SEEN_STANDING] = {"standing", {0, 1, 2, 3, -1}},
+    [SEEN_OPCODE] = {"opcode accepted", {1, 2, 3, 4, 5, 8, 11, 12, 18, -1}},
+};
+
+bool all_seen(void)
+{
+    bool whole = true;
+    for (int what = 0; what < SEENS; what++)
+        for (const int *n = all[what].numbers; *n >= 0; n++)
+            if (counts[what][*n] == 0) {
+                printf("no case reached %s %d\n", all[what].name, *n);
+                whole = false;
+            }
+    return whole;
+}

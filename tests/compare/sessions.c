@@ -1,0 +1,192 @@
+/* Cases of sessions: streams from a fresh record, given records, refused lengths. */
+#include "fill.h"
+#include "streams.h"
+#include "undalisho.h"
+#include "visit.h"
+
+#include <stdlib.h>
+#include <string.h>
+
+static size_t ram_length(trial *t)
+{
+    static const uint32_t edges[] = {1, 2, 255, 256, 65535, 65536, 65537, 131071, 131072};
+    return once_in(t->c, 16) ? PICK_OF(t->c, edges) : 1 + pick(t->c, 400);
+}
+
+static size_t flash_length(trial *t)
+{
+    static const uint32_t edges[] = {64, 1024, 32, 1023};
+    return SECTOR * (size_t)(once_in(t->c, 150) ? PICK_OF(t->c, edges) : 1 + pick(t->c, 4));
+}
+
+static size_t work_length(trial *t)
+{
+    static const uint32_t edges[] = {64, 65, 255, 256, 257, 65534, 65535};
+    return once_in(t->c, 8) ? PICK_OF(t->c, edges) : 64 + pick(t->c, 300);
+}
+
+static model_memories first_memories(trial *t, uint32_t kind)
+{
+    bool all = kind == KIND_UARTBOOT;
+    model_memories m = contents_of(FIRST_CONTENTS, ram_length(t), all ? flash_length(t) : 0, all ? work_length(t) : 0);
+    fill(t->c, m.ram, m.ram_length);
+    fill(t->c, m.flash, m.flash_length);
+    fill(t->c, m.work, m.work_length);
+    return m;
+}
+
+/* A fresh record of the library's own, on words that held something else. */
+static void fresh(trial *t, bool uartboot, uint32_t kind, uint32_t record[WORDS])
+{
+    uint32_t want[WORDS];
+    memset(record, 0xEE, sizeof want);
+    model_fresh(kind, want);
+    if (uartboot)
+        und_uartboot_fresh(record);
+    else
+        und_rom_fresh(kind, record);
+    if (memcmp(record, want, sizeof want) != 0)
+        differ(t, "fresh record of kind %u", kind);
+}
+
+/* Makes a stream by following the session from a visit's start. */
+static void make_stream(trial *t, visit *v, stream *s, uint32_t rounds)
+{
+    uint32_t record[WORDS];
+    model_memories lead = contents_of(LEAD_CONTENTS, 0, 0, 0);
+    copy_contents(&lead, &v->start.contents);
+    memcpy(record, v->start.record, sizeof record);
+    if (v->start.kind == KIND_UARTBOOT)
+        play_uartboot(t, s, record, &lead, rounds);
+    else
+        play_rom(t, s, record, &lead, rounds);
+    spoil(t, s);
+    v->stream = s->bytes;
+    v->length = s->length;
+}
+
+static void stream_case(trial *t, uint32_t kind)
+{
+    stream s = {0};
+    visit v = {.start.kind = kind, .fresh = true};
+    v.start.contents = first_memories(t, kind);
+    fresh(t, kind == KIND_UARTBOOT, kind, v.start.record);
+    v.alters = once_in(t->c, 5);
+    make_stream(t, &v, &s, 1 + pick(t->c, kind == KIND_UARTBOOT ? 8 : 4));
+    visit_run(t, &v);
+    free(s.bytes);
+}
+
+void rom_stream_case(trial *t)
+{
+    stream_case(t, pick(t->c, 2));
+}
+
+void uartboot_stream_case(trial *t)
+{
+    stream_case(t, KIND_UARTBOOT);
+}
+
+static uint32_t any_number(trial *t, const visit *v)
+{
+    const model_memories *m = &v->start.contents;
+    uint64_t edges[] = {0, 7, m->work_length, m->ram_length, 256, 65536, 0xFFFFFFFF, RAM_BASE, RAM_BASE + m->ram_length};
+    if (once_in(t->c, 2))
+        return pick(t->c, 24);
+    return (uint32_t)near_edges(t->c, edges, sizeof edges / sizeof *edges);
+}
+
+/* Words that are often a sound record, and often nearly one. */
+static void make_record(trial *t, visit *v, uint32_t last_phase)
+{
+    uint32_t *r = v->start.record;
+    bool uartboot = v->start.kind == KIND_UARTBOOT;
+    r[WORD_KIND] = once_in(t->c, 20) ? any_number(t, v) : v->start.kind;
+    r[WORD_PHASE] = once_in(t->c, 20) ? any_number(t, v) : pick(t->c, last_phase + 1);
+    r[WORD_OPCODE] = any_number(t, v);
+    r[WORD_LENGTH] = any_number(t, v);
+    r[WORD_PLACE] = once_in(t->c, 4) ? r[WORD_LENGTH] - 1 + pick(t->c, 2) : any_number(t, v);
+    r[WORD_HELD] = once_in(t->c, 2) ? pick(t->c, 256) : any_number(t, v);
+    r[WORD_REASON] = any_number(t, v);
+    r[WORD_SPARE] = any_number(t, v);
+    if (uartboot && !once_in(t->c, 4)) {
+        static planned p;
+        plan_command(t, &p, &v->start.contents);
+        r[WORD_OPCODE] = p.opcode;
+        r[WORD_LENGTH] = p.length;
+        if (p.length <= v->start.contents.work_length)
+            memcpy(v->start.contents.work, p.payload, p.length);
+    }
+}
+
+static bool accepted(const visit *v)
+{
+    uint32_t record[WORDS];
+    model_line nothing = {0};
+    memcpy(record, v->start.record, sizeof record);
+    model_report r = v->start.kind == KIND_UARTBOOT ? model_uartboot_call(record, &nothing, &v->start.contents)
+                                                    : model_rom_call(record, &nothing, &v->start.contents);
+    return r.number == 0;
+}
+
+static void record_case(trial *t, uint32_t kind, uint32_t last_phase)
+{
+    stream s = {0};
+    visit v = {.start.kind = kind};
+    v.start.contents = first_memories(t, kind);
+    make_record(t, &v, last_phase);
+    const uint32_t *r = v.start.record;
+    tell(t, "record: %u %u %u %u %u %u %u %u\n", r[0], r[1], r[2], r[3], r[4], r[5], r[6], r[7]);
+    v.alters = once_in(t->c, 5);
+    if (accepted(&v)) {
+        make_stream(t, &v, &s, pick(t->c, 3));
+    } else {
+        for (uint32_t left = pick(t->c, 20); left > 0; left--)
+            stream_add(&s, (uint8_t)pick(t->c, 256));
+        v.stream = s.bytes;
+        v.length = s.length;
+    }
+    visit_run(t, &v);
+    free(s.bytes);
+}
+
+void rom_record_case(trial *t)
+{
+    /* A receiver's fresh record has any kind that is given. */
+    static const uint32_t strange[] = {2, 3, 255, 256, 65536, 0xFFFFFFFF};
+    uint32_t record[WORDS];
+    fresh(t, false, PICK_OF(t->c, strange), record);
+    record_case(t, pick(t->c, 2), 12);
+}
+
+void uartboot_record_case(trial *t)
+{
+    record_case(t, KIND_UARTBOOT, 20);
+}
+
+/* Lengths at and past their bounds, in every combination. */
+void length_case(trial *t)
+{
+    static const uint32_t rams[] = {1, 131072, 0, 131073};
+    static const uint32_t works[] = {64, 65535, 63, 65536, 0, 1};
+    static const uint32_t flashes[] = {4096, 8192, 0, 4095, 4097, 1, 12287, 4194304, 4198400, 4194303};
+    uint32_t kind = pick(t->c, 3);
+    uint8_t input[12];
+    visit v = {.start.kind = kind, .stream = input, .length = pick(t->c, sizeof input)};
+    v.start.contents = contents_of(FIRST_CONTENTS, PICK_OF(t->c, rams), 0, 0);
+    if (kind == KIND_UARTBOOT) {
+        v.start.contents.work_length = PICK_OF(t->c, works);
+        v.start.contents.flash_length = once_in(t->c, 8) ? PICK_OF(t->c, flashes) : flashes[pick(t->c, 7)];
+    }
+    fill(t->c, v.start.contents.ram, v.start.contents.ram_length);
+    fill(t->c, v.start.contents.flash, v.start.contents.flash_length);
+    fill(t->c, v.start.contents.work, v.start.contents.work_length);
+    fill(t->c, input, sizeof input);
+    model_fresh(kind, v.start.record);
+    v.fresh = true;
+    if (once_in(t->c, 3)) {
+        v.start.record[WORD_PHASE] = pick(t->c, 24);
+        v.fresh = false;
+    }
+    visit_run(t, &v);
+}

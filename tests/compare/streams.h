@@ -1,0 +1,29 @@
+/* Streams that mostly play along with a session, and often don't. */
+#ifndef STREAMS_H
+#define STREAMS_H
+
+#include "desk.h"
+
+typedef struct {
+    uint8_t *bytes;
+    size_t length, capacity;
+} stream;
+
+/* Follows a session from its record and memories (which it writes), and appends what a host might send to it. */
+void play_rom(trial *t, stream *s, uint32_t record[WORDS], const model_memories *memories, uint32_t loads);
+void play_uartboot(trial *t, stream *s, uint32_t record[WORDS], const model_memories *memories, uint32_t commands);
+
+/* Damage that no session asked for: an end in the middle, a wrong byte, more bytes behind. */
+void spoil(trial *t, stream *s);
+
+/* A command's payload, mostly one that the memories admit. Gives its length. */
+typedef struct {
+    uint8_t opcode;
+    uint32_t length;
+    uint8_t payload[MOST_WORK + 64];
+} planned;
+
+void plan_command(trial *t, planned *p, const model_memories *memories);
+void stream_add(stream *s, uint8_t byte);
+
+#endif

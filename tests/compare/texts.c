@@ -1,0 +1,65 @@
+#include "texts.h"
+#include "fill.h"
+
+#include <stdio.h>
+#include <string.h>
+
+static size_t put_decimal(trial *t, char *at)
+{
+    static const uint32_t edges[] = {0, 1, 9, 10, 99, 100, 65535, 65536, 65534, 99999, 100000, 4294967295u};
+    uint32_t value = once_in(t->c, 3) ? PICK_OF(t->c, edges) : pick(t->c, 20);
+    return (size_t)sprintf(at, once_in(t->c, 30) ? "0%u" : "%u", value);
+}
+
+void make_version(trial *t, uint8_t *field, size_t room)
+{
+    static const char odd[] = {'.', '0', '9', 'a', ' ', '-', '/', ':', 0, 1, (char)0xFF};
+    char text[96] = {0};
+    size_t length = 0;
+    uint32_t numbers = once_in(t->c, 16) ? pick(t->c, 7) : 1 + pick(t->c, 4);
+    for (uint32_t k = 0; k < numbers; k++) {
+        length += put_decimal(t, text + length);
+        if (k + 1 < numbers)
+            text[length++] = '.';
+    }
+    memset(field, 0, room);
+    memcpy(field, text, length < room ? length : room);
+    if (once_in(t->c, 8))
+        field[pick(t->c, VERSION_FIELD)] = (uint8_t)PICK_OF(t->c, odd);
+    if (once_in(t->c, 16))
+        field[pick(t->c, VERSION_FIELD)] = (uint8_t)pick(t->c, 256);
+}
+
+void make_image(trial *t, uint8_t *bytes, uint32_t code)
+{
+    static const uint8_t ids[] = {0, 1, 7, 9, 10, 127, 128, 254, 255};
+    fill(t->c, bytes, IMAGE_HEADER + code);
+    bytes[0] = 0x70;
+    bytes[1] = 0x51;
+    bytes[2] = 0xAA;
+    bytes[3] = once_in(t->c, 2) ? PICK_OF(t->c, ids) : (uint8_t)pick(t->c, 256);
+    put_little(bytes + 4, 4, code);
+    make_version(t, bytes + 12, VERSION_FIELD);
+    bytes[32] = 0;
+    put_little(bytes + 8, 4, model_crc32(bytes + IMAGE_HEADER, code));
+}
+
+void damage_image(trial *t, uint8_t *bytes, size_t room)
+{
+    uint64_t sizes[] = {0, room - IMAGE_HEADER, MOST_CODE, 0xFFFFFFFF, room, 0x80000000};
+    switch (pick(t->c, 8)) {
+    case 0: bytes[pick(t->c, 2)] = (uint8_t)pick(t->c, 256); break;
+    case 1: bytes[2] = (uint8_t)pick(t->c, 256); break;
+    case 2: bytes[32] = (uint8_t)pick(t->c, 256); break;
+    case 3: bytes[8 + pick(t->c, 4)] ^= (uint8_t)(1u << pick(t->c, 8)); break;
+    case 4: bytes[IMAGE_HEADER] ^= (uint8_t)pick(t->c, 256); break;
+    case 5: bytes[33 + pick(t->c, 31)] = (uint8_t)pick(t->c, 256); break;
+    default: {
+        /* Another size, mostly with the CRC that it needs. */
+        uint64_t size = near_edges(t->c, sizes, sizeof sizes / sizeof *sizes) & 0xFFFFFFFF;
+        put_little(bytes + 4, 4, size);
+        if (size <= room - IMAGE_HEADER && !once_in(t->c, 4))
+            put_little(bytes + 8, 4, model_crc32(bytes + IMAGE_HEADER, size));
+    }
+    }
+}

@@ -1,0 +1,17 @@
+/* A stream fed to a session, cut in several ways. */
+#ifndef VISIT_H
+#define VISIT_H
+
+#include "desk.h"
+
+typedef struct {
+    setting start;
+    const uint8_t *stream;
+    size_t length;
+    bool fresh;  /* it starts at a fresh record */
+    bool alters; /* memories are written between calls, so that cuts may end differently */
+} visit;
+
+void visit_run(trial *t, const visit *v);
+
+#endif
