@@ -1,0 +1,15 @@
+/* What plain C copies and sums with. */
+#include <string.h>
+#include "plain.h"
+
+plain_means plain = { memcpy, plain_crc16_bitwise, plain_crc32_bitwise };
+
+/* One byte after the other, as a loop is written without a word on overlap. */
+void *plain_copy_by_loop(void *to, const void *from, size_t count)
+{
+    uint8_t *t = to;
+    const uint8_t *f = from;
+    for (size_t i = 0; i < count; i++)
+        t[i] = f[i];
+    return to;
+}

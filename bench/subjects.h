@@ -1,0 +1,37 @@
+/* What is measured: each subject's inputs, and its work by the library and by plain C. */
+#ifndef SUBJECTS_H
+#define SUBJECTS_H
+
+#include <stdint.h>
+#include "measure.h"
+
+/* Numbers that look random and are the same in every run. */
+uint32_t some_number(void);
+void some_bytes(uint8_t *bytes, size_t count);
+
+/* Room for so many bytes that begins at a place of a page. */
+uint8_t *room_at(size_t place, size_t count);
+
+void crc_prepare(const subject *s, size_t size);
+void crc16_library(const subject *s);
+void crc16_plain(const subject *s);
+void crc32_library(const subject *s);
+void crc32_plain(const subject *s);
+int crc_same(void);
+
+void slot_prepare(const subject *s, size_t size);
+void slot_library(const subject *s);
+void slot_plain(const subject *s);
+int slot_same(void);
+
+void version_prepare(const subject *s, size_t size);
+void version_library(const subject *s);
+void version_plain(const subject *s);
+int version_same(void);
+
+void session_prepare(const subject *s, size_t size);
+void session_library(const subject *s);
+void session_plain(const subject *s);
+int session_same(void);
+
+#endif
