@@ -20,7 +20,7 @@ use Rattle.memory.specs.Flash.{burnt, blank, erased}
 use Rattle.command.specs.Memories.{Memories, memories}
 use Rattle.uartboot_flow.specs.declared.step.Step.the-variants.{Header}
 use Rattle.uartboot_flow.specs.declared.step.HeaderStep.the-variants as uartboot-step
-use Rattle.uartboot.specs.Record as uartboot-record
+use Rattle.uartboot_record.specs.Record as uartboot-record
 use Rattle.sessions.specs.Kind.{romP, uartboot}
 use Rattle.sessions.specs.Definition.{definition}
 

@@ -17,7 +17,7 @@ use Rattle.command.specs.Demand.{judged}
 use Rattle.command.specs.Execution.{executed}
 use Rattle.command.specs.Opcode.{opcodeOf}
 use Rattle.uartboot_flow.specs.Fresh.{freshRecord}
-use Rattle.uartboot.specs.Record as device-record
+use Rattle.uartboot_record.specs.Record as device-record
 use Rattle.uartboot.specs.Session as device-session
 use Rattle.sessions.specs.Kind.{Kind, romP, romE, uartboot, MemoriesOf, sessionOf, freshOf}
 use Rattle.sessions.specs.Fakes.{Routine, Keeps, twoWrites, small, NobodyFakes}

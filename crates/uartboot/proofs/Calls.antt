@@ -16,9 +16,9 @@ use Rattle.command.specs.Memories.{Memories, Fitting}
 use Rattle.uartboot_flow.specs.declared.step.Step.{Step}
 use Rattle.uartboot_flow.specs.State.{state}
 use Rattle.uartboot_flow.specs.Due.{device}
-use Rattle.uartboot.specs.declared.record.Found.{Found}
-use Rattle.uartboot.specs.declared.record.Found.the-variants.{At, Unsound}
-use Rattle.uartboot.specs.Record.{written, decodedOf}
+use Rattle.uartboot_record.specs.declared.Found.{Found}
+use Rattle.uartboot_record.specs.declared.Found.the-variants.{At, Unsound}
+use Rattle.uartboot_record.specs.Record.{written, decodedOf}
 use Rattle.uartboot.specs.Session.{refusalOf, readOf, uartboot, answer}
 
 -- lengths that are not refused

@@ -26,11 +26,11 @@ use Rattle.uartboot_flow.specs.Sound.{Sound}
 use Rattle.uartboot_flow.proofs.Asks.{asked-need}
 use Rattle.uartboot_flow.proofs.Laws.{same-lengths, lawful}
 use Rattle.uartboot_flow.proofs.Sounds.{Held, stays-held}
-use Rattle.uartboot.specs.Record.{written}
+use Rattle.uartboot_record.specs.Record.{written}
+use Rattle.uartboot_record.proofs.Records.{reads-back}
 use Rattle.uartboot.specs.Session.{uartboot}
 use Rattle.uartboot.specs.History.{awaits, isEarly, isRefusal, begins, Last, since, noted, lastOf, Kept, Unchanged}
 use Rattle.uartboot.specs.History as history
-use Rattle.uartboot.proofs.Records.{reads-back}
 use Rattle.uartboot.proofs.Calls.{fitting, fitting-accepted}
 use Rattle.uartboot.proofs.Histories.{Stores, isBefore, Goes, quiet, GoesIf, ChecksAt, Left, Lefts, does-left}
 use Rattle.uartboot.proofs.Histories as histories

@@ -1,4 +1,3 @@
-pub mod Records
 pub mod Turns
 pub mod Calls
 pub mod Reached

@@ -13,12 +13,12 @@ use Rattle.uartboot_flow.specs.State.{State, state}
 use Rattle.uartboot_flow.specs.Due.{device}
 use Rattle.uartboot_flow.proofs.Laws.{same-lengths, held, lawful}
 use Rattle.uartboot_flow.proofs.Sounds.{Held}
-use Rattle.uartboot.specs.declared.record.Found.{Found}
-use Rattle.uartboot.specs.declared.record.Found.the-variants as found
-use Rattle.uartboot.specs.Record.{written, stepIn, decodedOf}
+use Rattle.uartboot_record.specs.declared.Found.{Found}
+use Rattle.uartboot_record.specs.declared.Found.the-variants as found
+use Rattle.uartboot_record.specs.Record.{written, stepIn, decodedOf}
+use Rattle.uartboot_record.proofs.Records.{decoded-sound, reads-back}
 use Rattle.uartboot.specs.Session.{uartboot}
 use Rattle.uartboot.specs.Reach.{StartsFresh, FreshAccepted, StaysAccepted}
-use Rattle.uartboot.proofs.Records.{decoded-sound, reads-back}
 use Rattle.uartboot.proofs.Calls.{fitting, fitting-accepted}
 
 pub starts-fresh : StartsFresh

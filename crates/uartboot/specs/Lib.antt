@@ -1,4 +1,3 @@
-pub mod Record
 pub mod Session
 pub mod History
 pub mod Reach

@@ -11,9 +11,9 @@ use Rattle.machine.specs.declared.Report.{Report}
 use Rattle.command.specs.Memories.{Memories}
 use Rattle.uartboot_flow.specs.State.{State, state}
 use Rattle.uartboot_flow.specs.Due.{device}
-use Rattle.uartboot.specs.declared.record.Found.{Found}
-use Rattle.uartboot.specs.declared.record.Found.the-variants.{At, Unsound}
-use Rattle.uartboot.specs.Record.{written, decodedOf}
+use Rattle.uartboot_record.specs.declared.Found.{Found}
+use Rattle.uartboot_record.specs.declared.Found.the-variants.{At, Unsound}
+use Rattle.uartboot_record.specs.Record.{written, decodedOf}
 
 -- lengths are tested in this order
 unfoldable pub refusalOf : (ram flash work : ℕ) → ℕ

@@ -1,3 +1,2 @@
-// The uartboot session as its caller sees it: its record, and the call.
-pub mod record;
+// The uartboot session as its caller sees it: the call.
 pub mod session;

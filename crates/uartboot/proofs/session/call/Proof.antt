@@ -1,7 +1,7 @@
 -- `uartboot::session::call`: the refusals in order, and the loop's answer written out.
 -- Assumes nothing.
 use mathlib.Core.Path.{refl, sym, _∙_}
-use Rattle.uartboot.proofs.Records.{decoded-sound}
+use Rattle.uartboot_record.proofs.Records.{decoded-sound}
 use Rattle.uartboot.proofs.Calls.{fitting, bad-length, bad-record, good}
 use borrow.Author.Needs.{needs}
 use Rattle.uartboot.proofs.session.call.Statement.{statement}

@@ -1,0 +1,145 @@
+-- The session's record (01, "Memories and the record", and "Numbers given back", number 4: record unsound). Numbers that a phase does
+-- not use are ignored when a record comes in, and are 0 in every record that an accepted call hands out.
+-- Assumes nothing.
+use Prim.Native.Nat.{ℕ}
+use mathlib.Core.Bool.{cond, not}
+use lib.Dec.{eqb, ltb}
+use Rattle.wire.specs.Range.{liesIn}
+use Rattle.wire.specs.Unit.{ramBase}
+use Rattle.machine.specs.declared.Record.{Record}
+use Rattle.command.specs.declared.opcode.Opcode.{Opcode}
+use Rattle.command.specs.declared.opcode.Lookup.{Lookup}
+use Rattle.command.specs.declared.opcode.Lookup.the-variants.{Known, Unknown}
+use Rattle.command.specs.Opcode.{opcodeNumber, opcodeOf, hasLength, hasAnswer}
+use Rattle.uartboot_flow.specs.declared.step.Step.{Step}
+use Rattle.uartboot_flow.specs.declared.step.Step.the-variants.{Greeting, Header, Command, Answer, Refusal, Running}
+use Rattle.uartboot_flow.specs.declared.step.HeaderStep.{HeaderStep}
+use Rattle.uartboot_flow.specs.declared.step.HeaderStep.the-variants.{TakeSoh, TakeOpcode, TakeLow, TakeHigh}
+use Rattle.uartboot_flow.specs.declared.step.CommandStep.{CommandStep}
+use Rattle.uartboot_flow.specs.declared.step.CommandStep.the-variants.{SendAck, TakePayload, SendPayloadAck, SendCrcLow, SendCrcHigh, TakeGo}
+use Rattle.uartboot_flow.specs.declared.step.AnswerStep.{AnswerStep}
+use Rattle.uartboot_flow.specs.declared.step.AnswerStep.the-variants as a
+use Rattle.uartboot_flow.specs.Flow.{greetingLength}
+use Rattle.uartboot_flow.specs.Fresh.{kindNumber}
+use Rattle.uartboot_record.specs.declared.Numbers.{Numbers}
+use Rattle.uartboot_record.specs.declared.Found.{Found}
+use Rattle.uartboot_record.specs.declared.Found.the-variants.{At, Unsound}
+
+abbrev pub fields : (phase opcode length place held : ℕ) → Numbers
+fields phase opcode length place held = record { phase = phase; opcode = opcode; length = length; place = place; held = held }
+
+-- a step in numbers; `held` is a low byte, or the address at which code runs
+abbrev pub headerNumbers : HeaderStep → Numbers
+headerNumbers TakeSoh = fields 1 0 0 0 0
+headerNumbers TakeOpcode = fields 2 0 0 0 0
+headerNumbers (TakeLow opcode) = fields 3 opcode 0 0 0
+headerNumbers (TakeHigh opcode low) = fields 4 opcode 0 0 low
+
+abbrev pub commandNumbers : (opcode length : ℕ) → CommandStep → Numbers
+commandNumbers opcode length SendAck = fields 5 opcode length 0 0
+commandNumbers opcode length (TakePayload place) = fields 6 opcode length place 0
+commandNumbers opcode length SendPayloadAck = fields 7 opcode length 0 0
+commandNumbers opcode length SendCrcLow = fields 8 opcode length 0 0
+commandNumbers opcode length SendCrcHigh = fields 9 opcode length 0 0
+commandNumbers opcode length TakeGo = fields 10 opcode length 0 0
+
+abbrev pub answerNumbers : (opcode length : ℕ) → AnswerStep → Numbers
+answerNumbers opcode length a.SendLengthLow = fields 11 opcode length 0 0
+answerNumbers opcode length a.SendLengthHigh = fields 12 opcode length 0 0
+answerNumbers opcode length a.TakeGo = fields 13 opcode length 0 0
+answerNumbers opcode length (a.SendAnswer place) = fields 14 opcode length place 0
+answerNumbers opcode length a.TakeCrcLow = fields 15 opcode length 0 0
+answerNumbers opcode length (a.TakeCrcHigh low) = fields 16 opcode length 0 low
+answerNumbers opcode length a.SendAck = fields 17 opcode length 0 0
+
+abbrev pub numbersOf : Step → Numbers
+numbersOf (Greeting place) = fields 0 0 0 place 0
+numbersOf (Header step) = headerNumbers step
+numbersOf (Command opcode length step) = commandNumbers (opcodeNumber opcode) length step
+numbersOf (Answer opcode length step) = answerNumbers (opcodeNumber opcode) length step
+numbersOf Refusal = fields 18 0 0 0 0
+numbersOf (Running address) = fields 19 0 0 0 (address .0)
+
+-- the record of a step
+unfoldable pub written : Step → (reason : ℕ) → Record
+written step reason =
+    record {
+      kind = kindNumber;
+      phase = numbersOf step .phase;
+      opcode = numbersOf step .opcode;
+      length = numbersOf step .length;
+      place = numbersOf step .place;
+      held = numbersOf step .held;
+      reason = reason;
+      spare = 0;
+    }
+
+-- phases 0 to 4; the place is that of the greeting's next byte, so it is below 4, and the header's numbers may be any
+abbrev pub plainIn : Numbers → Found
+plainIn n =
+    cond (eqb (n .phase) 0) (cond (ltb (n .place) greetingLength) (At (Greeting (n .place))) Unsound)
+    (cond (eqb (n .phase) 1) (At (Header TakeSoh))
+    (cond (eqb (n .phase) 2) (At (Header TakeOpcode))
+    (cond (eqb (n .phase) 3) (At (Header (TakeLow (n .opcode))))
+    (At (Header (TakeHigh (n .opcode) (n .held)))))))
+
+-- phases 6 to 10; the place is that of the payload's next byte
+abbrev pub payloadIn : Opcode → (phase length place : ℕ) → Found
+payloadIn opcode phase length place =
+    cond (eqb phase 6) (cond (ltb place length) (At (Command opcode length (TakePayload place))) Unsound)
+    (cond (eqb phase 7) (At (Command opcode length SendPayloadAck))
+    (cond (eqb phase 8) (At (Command opcode length SendCrcLow))
+    (cond (eqb phase 9) (At (Command opcode length SendCrcHigh))
+    (At (Command opcode length TakeGo)))))
+
+-- phases 5 to 10, with a work buffer of `work` bytes; without payload only phase 5 is there
+abbrev pub commandIn : (work : ℕ) → Opcode → Numbers → Found
+commandIn work opcode n =
+    cond (not (hasLength opcode (n .length))) Unsound
+    (cond (ltb work (n .length)) Unsound
+    (cond (eqb (n .phase) 5) (At (Command opcode (n .length) SendAck))
+    (cond (eqb (n .length) 0) Unsound
+    (payloadIn opcode (n .phase) (n .length) (n .place)))))
+
+-- phases 11 to 17; the place is that of the answer's next byte
+abbrev pub answerStepIn : Opcode → Numbers → Found
+answerStepIn opcode n =
+    cond (eqb (n .phase) 11) (At (Answer opcode (n .length) a.SendLengthLow))
+    (cond (eqb (n .phase) 12) (At (Answer opcode (n .length) a.SendLengthHigh))
+    (cond (eqb (n .phase) 13) (At (Answer opcode (n .length) a.TakeGo))
+    (cond (eqb (n .phase) 14) (cond (ltb (n .place) (n .length)) (At (Answer opcode (n .length) (a.SendAnswer (n .place)))) Unsound)
+    (cond (eqb (n .phase) 15) (At (Answer opcode (n .length) a.TakeCrcLow))
+    (cond (eqb (n .phase) 16) (At (Answer opcode (n .length) (a.TakeCrcHigh (n .held))))
+    (At (Answer opcode (n .length) a.SendAck)))))))
+
+abbrev pub answerIn : (work : ℕ) → Opcode → Numbers → Found
+answerIn work opcode n =
+    cond (not (hasAnswer opcode)) Unsound
+    (cond (eqb (n .length) 0) Unsound
+    (cond (ltb work (n .length)) Unsound
+    (answerStepIn opcode n)))
+
+-- code runs in RAM
+abbrev pub runningIn : (ram address : ℕ) → Found
+runningIn ram address = cond (liesIn address 1 ramBase ram) (At (Running (record { 0 = address }))) Unsound
+
+-- phases 18 and 19, and unknown ones
+abbrev pub lastIn : (ram : ℕ) → Numbers → Found
+lastIn ram n = cond (eqb (n .phase) 18) (At Refusal) (cond (eqb (n .phase) 19) (runningIn ram (n .held)) Unsound)
+
+-- a command's or an answer's opcode must be known
+abbrev pub withOpcode : (work : ℕ) → Lookup → Numbers → Found
+withOpcode work Unknown n = Unsound
+withOpcode work (Known opcode) n = cond (ltb (n .phase) 11) (commandIn work opcode n) (answerIn work opcode n)
+
+unfoldable pub stepIn : (ram work : ℕ) → Numbers → Found
+stepIn ram work n =
+    cond (ltb (n .phase) 5) (plainIn n)
+    (cond (ltb 17 (n .phase)) (lastIn ram n)
+    (withOpcode work (opcodeOf (n .opcode)) n))
+
+-- what a record stands for, with memories of these lengths
+unfoldable pub decodedOf : (ram work : ℕ) → Record → Found
+decodedOf ram work r =
+    cond (not (eqb (r .kind) kindNumber)) Unsound
+    (stepIn ram work (fields (r .phase) (r .opcode) (r .length) (r .place) (r .held)))

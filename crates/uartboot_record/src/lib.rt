@@ -1,0 +1,269 @@
+// The record of a uartboot session: a step in numbers, and back.
+ghost use mathlib.Core.Path.{_≡_};
+ghost use Rattle.uartboot_record.specs.Record.{fields, headerNumbers, commandNumbers, answerNumbers, numbersOf, written, plainIn, payloadIn, commandIn, answerStepIn, answerIn, runningIn, lastIn, stepIn, decodedOf};
+use command::opcode::Lookup;
+use command::opcode::Opcode;
+use command::opcode::has_answer;
+use command::opcode::has_length;
+use command::opcode::number_of;
+use command::opcode::opcode_of;
+use machine::Record;
+use uartboot_flow::kind::Uartboot;
+use uartboot_flow::step::AnswerStep;
+use uartboot_flow::step::CommandStep;
+use uartboot_flow::step::HeaderStep;
+use uartboot_flow::step::Step;
+use wire::range::Place;
+use wire::unit::RamAddress;
+
+// A step in numbers. `held` is a low byte, or the address at which code runs.
+pub struct Numbers {
+    pub phase: u32,
+    pub opcode: u32,
+    pub length: u32,
+    pub place: u32,
+    pub held: u32,
+}
+
+// The step that numbers stand for, or that there is none.
+pub enum Found {
+    At(Step),
+    Unsound,
+}
+
+fn fields(phase: u32, opcode: u32, length: u32, place: u32, held: u32) -> Numbers
+    ensures { λ r. ⌜ r ≡ fields phase opcode length place held ⌝ }
+{
+    Numbers {
+        phase: phase,
+        opcode: opcode,
+        length: length,
+        place: place,
+        held: held,
+    }
+}
+
+fn header_numbers(step: HeaderStep) -> Numbers
+    ensures { λ r. ⌜ r ≡ headerNumbers step ⌝ }
+{
+    match step {
+        HeaderStep::TakeSoh => fields(1, 0, 0, 0, 0),
+        HeaderStep::TakeOpcode => fields(2, 0, 0, 0, 0),
+        HeaderStep::TakeLow(opcode) => fields(3, opcode, 0, 0, 0),
+        HeaderStep::TakeHigh(opcode, low) => fields(4, opcode, 0, 0, low),
+    }
+}
+
+fn command_numbers(opcode: u32, length: u32, step: CommandStep) -> Numbers
+    ensures { λ r. ⌜ r ≡ commandNumbers opcode length step ⌝ }
+{
+    match step {
+        CommandStep::SendAck => fields(5, opcode, length, 0, 0),
+        CommandStep::TakePayload(place) => fields(6, opcode, length, place, 0),
+        CommandStep::SendPayloadAck => fields(7, opcode, length, 0, 0),
+        CommandStep::SendCrcLow => fields(8, opcode, length, 0, 0),
+        CommandStep::SendCrcHigh => fields(9, opcode, length, 0, 0),
+        CommandStep::TakeGo => fields(10, opcode, length, 0, 0),
+    }
+}
+
+fn answer_numbers(opcode: u32, length: u32, step: AnswerStep) -> Numbers
+    ensures { λ r. ⌜ r ≡ answerNumbers opcode length step ⌝ }
+{
+    match step {
+        AnswerStep::SendLengthLow => fields(11, opcode, length, 0, 0),
+        AnswerStep::SendLengthHigh => fields(12, opcode, length, 0, 0),
+        AnswerStep::TakeGo => fields(13, opcode, length, 0, 0),
+        AnswerStep::SendAnswer(place) => fields(14, opcode, length, place, 0),
+        AnswerStep::TakeCrcLow => fields(15, opcode, length, 0, 0),
+        AnswerStep::TakeCrcHigh(low) => fields(16, opcode, length, 0, low),
+        AnswerStep::SendAck => fields(17, opcode, length, 0, 0),
+    }
+}
+
+fn numbers_of(step: Step) -> Numbers
+    ensures { λ r. ⌜ r ≡ numbersOf step ⌝ }
+{
+    match step {
+        Step::Greeting(place) => fields(0, 0, 0, place, 0),
+        Step::Header(inner) => header_numbers(inner),
+        Step::Command(opcode, length, inner) => command_numbers(number_of(opcode), length, inner),
+        Step::Answer(opcode, length, inner) => answer_numbers(number_of(opcode), length, inner),
+        Step::Refusal => fields(18, 0, 0, 0, 0),
+        Step::Running(address) => fields(19, 0, 0, 0, address.0),
+    }
+}
+
+// The record of a step.
+pub fn encode(step: Step, reason: u32) -> Record
+    ensures { λ r. ⌜ r ≡ written step reason ⌝ }
+{
+    let n = numbers_of(step);
+    Record {
+        kind: Uartboot::KIND,
+        phase: n.phase,
+        opcode: n.opcode,
+        length: n.length,
+        place: n.place,
+        held: n.held,
+        reason: reason,
+        spare: 0,
+    }
+}
+
+// The greeting and the header; any other phase is the header's last one.
+fn plain_in(n: Numbers) -> Found
+    ensures { λ r. ⌜ r ≡ plainIn n ⌝ }
+{
+    let phase = n.phase;
+    match phase {
+        0 => {
+            if n.place < Uartboot::GREETING_LENGTH {
+                Found::At(Step::Greeting(n.place))
+            } else {
+                Found::Unsound
+            }
+        }
+        1 => Found::At(Step::Header(HeaderStep::TakeSoh)),
+        2 => Found::At(Step::Header(HeaderStep::TakeOpcode)),
+        3 => Found::At(Step::Header(HeaderStep::TakeLow(n.opcode))),
+        _ => Found::At(Step::Header(HeaderStep::TakeHigh(n.opcode, n.held))),
+    }
+}
+
+// The steps from a payload's first byte on; any other phase is the last of them.
+fn payload_in(opcode: Opcode, phase: u32, length: u32, place: u32) -> Found
+    ensures { λ r. ⌜ r ≡ payloadIn opcode phase length place ⌝ }
+{
+    match phase {
+        6 => {
+            if place < length {
+                Found::At(Step::Command(opcode, length, CommandStep::TakePayload(place)))
+            } else {
+                Found::Unsound
+            }
+        }
+        7 => Found::At(Step::Command(opcode, length, CommandStep::SendPayloadAck)),
+        8 => Found::At(Step::Command(opcode, length, CommandStep::SendCrcLow)),
+        9 => Found::At(Step::Command(opcode, length, CommandStep::SendCrcHigh)),
+        _ => Found::At(Step::Command(opcode, length, CommandStep::TakeGo)),
+    }
+}
+
+// A command: its opcode has the length, the length is within the work buffer, and without payload there is only the header's 06.
+fn command_in(work: usize, opcode: Opcode, n: Numbers) -> Found
+    ensures { λ r. ⌜ r ≡ commandIn work opcode n ⌝ }
+{
+    let length = n.length;
+    if !has_length(opcode, length as usize) {
+        return Found::Unsound;
+    }
+    if work < (length as usize) {
+        return Found::Unsound;
+    }
+    if n.phase == 5 {
+        return Found::At(Step::Command(opcode, length, CommandStep::SendAck));
+    }
+    if length == 0 {
+        return Found::Unsound;
+    }
+    payload_in(opcode, n.phase, length, n.place)
+}
+
+// The steps of an answer; any other phase is the last of them.
+fn answer_step_in(opcode: Opcode, n: Numbers) -> Found
+    ensures { λ r. ⌜ r ≡ answerStepIn opcode n ⌝ }
+{
+    let phase = n.phase;
+    let length = n.length;
+    match phase {
+        11 => Found::At(Step::Answer(opcode, length, AnswerStep::SendLengthLow)),
+        12 => Found::At(Step::Answer(opcode, length, AnswerStep::SendLengthHigh)),
+        13 => Found::At(Step::Answer(opcode, length, AnswerStep::TakeGo)),
+        14 => {
+            if n.place < length {
+                Found::At(Step::Answer(opcode, length, AnswerStep::SendAnswer(n.place)))
+            } else {
+                Found::Unsound
+            }
+        }
+        15 => Found::At(Step::Answer(opcode, length, AnswerStep::TakeCrcLow)),
+        16 => Found::At(Step::Answer(opcode, length, AnswerStep::TakeCrcHigh(n.held))),
+        _ => Found::At(Step::Answer(opcode, length, AnswerStep::SendAck)),
+    }
+}
+
+// An answer: its opcode has one, of 1 byte or more, within the work buffer.
+fn answer_in(work: usize, opcode: Opcode, n: Numbers) -> Found
+    ensures { λ r. ⌜ r ≡ answerIn work opcode n ⌝ }
+{
+    if !has_answer(opcode) {
+        return Found::Unsound;
+    }
+    if n.length == 0 {
+        return Found::Unsound;
+    }
+    if work < (n.length as usize) {
+        return Found::Unsound;
+    }
+    answer_step_in(opcode, n)
+}
+
+// Code runs at an address in RAM.
+fn running_in(ram: usize, address: u32) -> Found
+    ensures { λ r. ⌜ r ≡ runningIn ram address ⌝ }
+{
+    match RamAddress(address).place(1, ram) {
+        Place::Inside(_) => Found::At(Step::Running(RamAddress(address))),
+        Place::Outside => Found::Unsound,
+    }
+}
+
+fn last_in(ram: usize, n: Numbers) -> Found
+    ensures { λ r. ⌜ r ≡ lastIn ram n ⌝ }
+{
+    let phase = n.phase;
+    match phase {
+        18 => Found::At(Step::Refusal),
+        19 => running_in(ram, n.held),
+        _ => Found::Unsound,
+    }
+}
+
+fn step_in(ram: usize, work: usize, n: Numbers) -> Found
+    ensures { λ r. ⌜ r ≡ stepIn ram work n ⌝ }
+{
+    if n.phase < 5 {
+        return plain_in(n);
+    }
+    if 17 < n.phase {
+        return last_in(ram, n);
+    }
+    let Lookup::Known(opcode) = opcode_of(n.opcode) else {
+        return Found::Unsound;
+    };
+    if n.phase < 11 {
+        return command_in(work, opcode, n);
+    }
+    answer_in(work, opcode, n)
+}
+
+// The step that a record stands for, with memories of these lengths.
+pub fn decode(ram: usize, work: usize, session: Record) -> Found
+    ensures { λ r. ⌜ r ≡ decodedOf ram work session ⌝ }
+{
+    if session.kind != Uartboot::KIND {
+        return Found::Unsound;
+    }
+    step_in(
+        ram,
+        work,
+        fields(
+            session.phase,
+            session.opcode,
+            session.length,
+            session.place,
+            session.held,
+        ),
+    )
+}
