@@ -7,7 +7,7 @@ ghost use Rattle.offer.specs.Offer.{offerOf};
 ghost use Rattle.machine.specs.Session.{answerOf};
 ghost use Rattle.machine.specs.Words.{recordOf, wordsOf};
 ghost use Rattle.rom.specs.Session.{freshRecord, rom};
-ghost use Rattle.command.specs.Memories.{memories};
+ghost use Rattle.command_execution.specs.Memories.{memories};
 ghost use Rattle.uartboot_flow.specs.Fresh as uartbootFresh;
 ghost use Rattle.uartboot.specs.Session.{uartboot};
 ghost use Rattle.rom_flow.specs.declared.kind.Kind.the-variants.{P, E};

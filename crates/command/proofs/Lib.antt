@@ -1,5 +1,1 @@
-pub mod DataEnds
-pub mod Demands
 pub mod Opcodes
-pub mod Ready
-pub mod Executions

@@ -1,5 +1,4 @@
-// uartboot's commands: their opcodes, what a payload says, the checks, and what each command does to the memories.
+// uartboot's commands: their opcodes, what a payload says, and the checks.
 pub mod demand;
-pub mod execution;
 pub mod opcode;
 pub mod payload;

@@ -17,7 +17,7 @@ use Rattle.rom_flow.specs.declared.step.Step.the-variants.{TakeCode, Running}
 use Rattle.rom_flow.specs.Receiver.{fresh, receiver}
 use Rattle.rom.specs.Record.{written}
 use Rattle.memory.specs.Flash.{burnt, blank, erased}
-use Rattle.command.specs.Memories.{Memories, memories}
+use Rattle.command_execution.specs.Memories.{Memories, memories}
 use Rattle.uartboot_flow.specs.declared.step.Step.the-variants.{Header}
 use Rattle.uartboot_flow.specs.declared.step.HeaderStep.the-variants as uartboot-step
 use Rattle.uartboot_record.specs.Record as uartboot-record

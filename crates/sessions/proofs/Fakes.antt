@@ -14,8 +14,8 @@ use Rattle.wire.specs.Length.{isBetween, isFlashLength}
 use Rattle.rom_flow.specs.Receiver as receiver
 use Rattle.rom.specs.Record as rom-record
 use Rattle.command.specs.Demand.{judged}
-use Rattle.command.specs.Execution.{executed}
 use Rattle.command.specs.Opcode.{opcodeOf}
+use Rattle.command_execution.specs.Execution.{executed}
 use Rattle.uartboot_flow.specs.Fresh.{freshRecord}
 use Rattle.uartboot_record.specs.Record as device-record
 use Rattle.uartboot.specs.Session as device-session

@@ -7,7 +7,7 @@ use lib.ListN.{length, take, replicate}
 use Rattle.machine.specs.Call.{call}
 use Rattle.machine.specs.Session.{Answer, sound, answerOf}
 use Rattle.machine.specs.declared.Record.{Record}
-use Rattle.command.specs.Memories.{Memories, memories}
+use Rattle.command_execution.specs.Memories.{Memories, memories}
 use Rattle.uartboot_flow.specs.Fresh.{freshRecord}
 use Rattle.sessions.specs.Kind.{Kind, uartboot, MemoriesOf, StateOf, sessionOf}
 

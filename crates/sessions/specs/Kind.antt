@@ -9,7 +9,7 @@ use Rattle.rom_flow.specs.declared.kind.Kind.the-variants.{P, E}
 use Rattle.rom_flow.specs.Receiver as receiver
 use Rattle.rom.specs.Session.{rom}
 use Rattle.rom.specs.Awaits as rom-awaits
-use Rattle.command.specs.Memories.{Memories}
+use Rattle.command_execution.specs.Memories.{Memories}
 use Rattle.uartboot_flow.specs.State as device
 use Rattle.uartboot_flow.specs.Fresh as device-fresh
 use Rattle.uartboot.specs.Session as device-session

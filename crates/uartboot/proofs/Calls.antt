@@ -12,7 +12,7 @@ use Rattle.machine.specs.Session.{badRecord, refusedReport, answerOf}
 use Rattle.machine.specs.declared.Record.{Record}
 use Rattle.machine.specs.declared.Report.{Report}
 use Rattle.machine.proofs.Answers.{refused-length, refused-record, accepted-call}
-use Rattle.command.specs.Memories.{Memories, Fitting}
+use Rattle.command_execution.specs.Memories.{Memories, Fitting}
 use Rattle.uartboot_flow.specs.declared.step.Step.{Step}
 use Rattle.uartboot_flow.specs.State.{state}
 use Rattle.uartboot_flow.specs.Due.{device}

@@ -15,7 +15,7 @@ use Rattle.machine.specs.SessionLaws.{Byte, Faithful}
 use Rattle.machine.proofs.Acknowledgements.{runs-on}
 use Rattle.machine.proofs.Doing.{Leaves, is-line, does-kept, leaves-weaken}
 use Rattle.machine.proofs.Lines.{line-one, line-speaks}
-use Rattle.command.specs.Memories.{Memories}
+use Rattle.command_execution.specs.Memories.{Memories}
 use Rattle.uartboot_flow.specs.declared.step.Step.{Step}
 use Rattle.uartboot_flow.specs.declared.step.Step.the-variants.{Greeting, Header, Command, Answer, Refusal, Running}
 use Rattle.uartboot_flow.specs.State.{State}

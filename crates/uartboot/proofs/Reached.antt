@@ -8,7 +8,7 @@ use Rattle.machine.specs.Session.{sound, accepted, answerOf}
 use Rattle.machine.specs.declared.Record.{Record}
 use Rattle.machine.proofs.Paths.{call-keeps, all-any}
 use Rattle.machine.proofs.Refusals.{accepts, sound-same, never-sound}
-use Rattle.command.specs.Memories.{Memories, Fitting}
+use Rattle.command_execution.specs.Memories.{Memories, Fitting}
 use Rattle.uartboot_flow.specs.State.{State, state}
 use Rattle.uartboot_flow.specs.Due.{device}
 use Rattle.uartboot_flow.proofs.Laws.{same-lengths, held, lawful}

@@ -8,7 +8,7 @@ use Rattle.machine.specs.Lawful.{Any}
 use Rattle.machine.specs.Loop.{Acted}
 use Rattle.machine.proofs.Loops.{Reached, reached-start, acted-hungry, acted-choked, acted-runs}
 use Rattle.machine.proofs.Repeats.{reached-takes, reached-sends, takes-keep, sends-keep}
-use Rattle.command.specs.Memories.{Memories}
+use Rattle.command_execution.specs.Memories.{Memories}
 use Rattle.uartboot_flow.specs.declared.step.Step.{Step}
 use Rattle.uartboot_flow.specs.declared.ask.Ask.the-variants.{Take, Send, Halt}
 use Rattle.uartboot_flow.specs.declared.ask.Taking.{Taking}

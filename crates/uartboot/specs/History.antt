@@ -9,7 +9,7 @@ use Rattle.wire.specs.Line.{soh}
 use Rattle.machine.specs.History.{Event}
 use Rattle.machine.specs.Acknowledged.{tookByte}
 use Rattle.command.specs.Opcode.{isRun}
-use Rattle.command.specs.Memories.{Memories}
+use Rattle.command_execution.specs.Memories.{Memories}
 use Rattle.uartboot_flow.specs.declared.step.Step.{Step}
 use Rattle.uartboot_flow.specs.declared.step.Step.the-variants.{Greeting, Header, Command, Answer, Refusal, Running}
 use Rattle.uartboot_flow.specs.declared.step.HeaderStep.{HeaderStep}

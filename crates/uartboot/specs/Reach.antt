@@ -5,7 +5,7 @@ use mathlib.Core.Path.{_≡_}
 use mathlib.Core.List.{List}
 use Rattle.machine.specs.Session.{answerOf}
 use Rattle.machine.specs.declared.Record.{Record}
-use Rattle.command.specs.Memories.{Memories, SameLengths}
+use Rattle.command_execution.specs.Memories.{Memories, SameLengths}
 use Rattle.uartboot_flow.specs.Fresh.{freshRecord, fresh}
 use Rattle.uartboot.specs.Session.{uartboot}
 

@@ -8,7 +8,7 @@ use lib.ListN.{length}
 use Rattle.wire.specs.Length.{isWorkLength, badWork, isRamLength, badRam, isFlashLength, badFlash}
 use Rattle.machine.specs.Session.{Read, sound, unsound, Session, Answer}
 use Rattle.machine.specs.declared.Report.{Report}
-use Rattle.command.specs.Memories.{Memories}
+use Rattle.command_execution.specs.Memories.{Memories}
 use Rattle.uartboot_flow.specs.State.{State, state}
 use Rattle.uartboot_flow.specs.Due.{device}
 use Rattle.uartboot_record.specs.declared.Found.{Found}

@@ -4,7 +4,7 @@ ghost use Prim.Native.Nat.{_+_, _≤_};
 ghost use lib.ListN.{length};
 ghost use Rattle.machine.specs.Loop.{Acted};
 ghost use Rattle.machine.specs.Session.{answerOf};
-ghost use Rattle.command.specs.Memories.{memories};
+ghost use Rattle.command_execution.specs.Memories.{memories};
 ghost use Rattle.uartboot_flow.specs.State.{state};
 ghost use Rattle.uartboot_flow.specs.Due.{device};
 ghost use Rattle.uartboot_flow.specs.Sound.{Ready};

@@ -7,7 +7,7 @@ use Rattle.machine.specs.Machine as machine
 use Rattle.machine.specs.Machine.{Need, runs}
 use Rattle.machine.specs.Does.{needOf}
 use Rattle.command.specs.declared.opcode.Opcode.{Opcode}
-use Rattle.command.specs.Memories.{Memories}
+use Rattle.command_execution.specs.Memories.{Memories}
 use Rattle.uartboot_flow.specs.declared.step.Step.{Step}
 use Rattle.uartboot_flow.specs.declared.step.Step.the-variants.{Greeting, Header, Command, Answer, Refusal, Running}
 use Rattle.uartboot_flow.specs.declared.step.HeaderStep.{HeaderStep}

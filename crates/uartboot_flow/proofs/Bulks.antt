@@ -14,7 +14,7 @@ use Rattle.machine.specs.Steps.{Takes, Sends}
 use Rattle.machine.specs.Steps as steps
 use Rattle.machine.proofs.Repeats.{sends-length}
 use Rattle.command.specs.declared.opcode.Opcode.{Opcode}
-use Rattle.command.specs.Memories.{memories}
+use Rattle.command_execution.specs.Memories.{memories}
 use Rattle.uartboot_flow.specs.declared.step.Step.the-variants.{Command, Answer}
 use Rattle.uartboot_flow.specs.declared.step.CommandStep.the-variants.{TakePayload}
 use Rattle.uartboot_flow.specs.declared.step.AnswerStep.the-variants.{SendAnswer}

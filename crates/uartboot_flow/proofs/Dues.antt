@@ -9,10 +9,10 @@ use borrow.Author.Tests.{ltb-false}
 use Rattle.wire.proofs.Tests.{in-cond}
 use Rattle.machine.proofs.Doing.{Counted}
 use Rattle.command.specs.declared.opcode.Opcode.{Opcode}
-use Rattle.command.specs.declared.execution.Ending.{Ending}
-use Rattle.command.specs.declared.execution.Ending.the-variants.{Silent, Answers, Runs, Failed}
-use Rattle.command.specs.Memories.{Memories}
-use Rattle.command.specs.Execution.{executed}
+use Rattle.command_execution.specs.declared.Ending.{Ending}
+use Rattle.command_execution.specs.declared.Ending.the-variants.{Silent, Answers, Runs, Failed}
+use Rattle.command_execution.specs.Memories.{Memories}
+use Rattle.command_execution.specs.Execution.{executed}
 use Rattle.uartboot_flow.specs.declared.step.Step.{Step}
 use Rattle.uartboot_flow.specs.declared.step.Step.the-variants.{Greeting, Header, Command, Answer, Refusal, Running}
 use Rattle.uartboot_flow.specs.declared.step.HeaderStep.the-variants.{TakeSoh, TakeOpcode, TakeLow, TakeHigh}

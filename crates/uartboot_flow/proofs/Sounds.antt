@@ -15,13 +15,13 @@ use Rattle.machine.proofs.Doing.{Leaves}
 use Rattle.command.specs.declared.opcode.Opcode.{Opcode}
 use Rattle.command.specs.declared.opcode.Lookup.{Lookup}
 use Rattle.command.specs.declared.opcode.Lookup.the-variants.{Known, Unknown}
-use Rattle.command.specs.declared.execution.Ending.{Ending}
-use Rattle.command.specs.declared.execution.Ending.the-variants.{Silent, Answers, Runs, Failed}
 use Rattle.command.specs.Opcode.{opcodeOf, hasLength}
 use Rattle.command.specs.Payload.{Carried, commandOf}
-use Rattle.command.specs.Memories.{Memories, Fitting, SameLengths}
-use Rattle.command.specs.Execution.{executed, checked}
-use Rattle.command.proofs.Executions.{Fine, executed-keeps}
+use Rattle.command_execution.specs.declared.Ending.{Ending}
+use Rattle.command_execution.specs.declared.Ending.the-variants.{Silent, Answers, Runs, Failed}
+use Rattle.command_execution.specs.Memories.{Memories, Fitting, SameLengths}
+use Rattle.command_execution.specs.Execution.{executed, checked}
+use Rattle.command_execution.proofs.Executions.{Fine, executed-keeps}
 use Rattle.uartboot_flow.specs.declared.step.Step.{Step}
 use Rattle.uartboot_flow.specs.declared.step.Step.the-variants.{Greeting, Header, Command, Answer, Refusal, Running}
 use Rattle.uartboot_flow.specs.declared.step.HeaderStep.{HeaderStep}

@@ -6,10 +6,10 @@ use lib.Dec.{eqb}
 use Rattle.machine.specs.Machine.{Machine}
 use Rattle.machine.specs.Does.{lineOf}
 use Rattle.command.specs.declared.opcode.Opcode.{Opcode}
-use Rattle.command.specs.declared.execution.Ending.{Ending}
-use Rattle.command.specs.declared.execution.Ending.the-variants.{Silent, Answers, Runs, Failed}
-use Rattle.command.specs.Memories.{Memories}
-use Rattle.command.specs.Execution.{executed}
+use Rattle.command_execution.specs.declared.Ending.{Ending}
+use Rattle.command_execution.specs.declared.Ending.the-variants.{Silent, Answers, Runs, Failed}
+use Rattle.command_execution.specs.Memories.{Memories}
+use Rattle.command_execution.specs.Execution.{executed}
 use Rattle.uartboot_flow.specs.declared.step.Step.{Step}
 use Rattle.uartboot_flow.specs.declared.step.Step.the-variants.{Greeting, Header, Command, Answer, Refusal, Running}
 use Rattle.uartboot_flow.specs.declared.step.CommandStep.{CommandStep}

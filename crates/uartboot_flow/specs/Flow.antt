@@ -14,12 +14,12 @@ use Rattle.machine.specs.Does.{Does, takes, sends, runs, tookOf, sentOf}
 use Rattle.command.specs.declared.opcode.Opcode.{Opcode}
 use Rattle.command.specs.declared.opcode.Lookup.{Lookup}
 use Rattle.command.specs.declared.opcode.Lookup.the-variants.{Known, Unknown}
-use Rattle.command.specs.declared.execution.Ending.{Ending}
-use Rattle.command.specs.declared.execution.Ending.the-variants.{Silent, Answers, Runs, Failed}
 use Rattle.command.specs.Opcode.{opcodeOf, hasLength}
 use Rattle.command.specs.Payload.{commandOf}
-use Rattle.command.specs.Memories.{Memories, memories}
-use Rattle.command.specs.Execution.{checked, executed}
+use Rattle.command_execution.specs.declared.Ending.{Ending}
+use Rattle.command_execution.specs.declared.Ending.the-variants.{Silent, Answers, Runs, Failed}
+use Rattle.command_execution.specs.Memories.{Memories, memories}
+use Rattle.command_execution.specs.Execution.{checked, executed}
 use Rattle.uartboot_flow.specs.declared.step.Step.{Step}
 use Rattle.uartboot_flow.specs.declared.step.Step.the-variants.{Greeting, Header, Command, Answer, Refusal, Running}
 use Rattle.uartboot_flow.specs.declared.step.HeaderStep.{HeaderStep}

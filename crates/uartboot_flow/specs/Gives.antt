@@ -5,7 +5,7 @@ use mathlib.Core.Path.{_≡_}
 use mathlib.Core.List.{List}
 use Rattle.machine.specs.Does.{byteOf}
 use Rattle.machine.specs.Steps.{Takes, Sends}
-use Rattle.command.specs.Memories.{Memories, memories}
+use Rattle.command_execution.specs.Memories.{Memories, memories}
 use Rattle.uartboot_flow.specs.declared.step.Step.{Step}
 use Rattle.uartboot_flow.specs.declared.step.Progress.{Progress}
 use Rattle.uartboot_flow.specs.State.{State, state}

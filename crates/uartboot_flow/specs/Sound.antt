@@ -7,8 +7,8 @@ use lib.ListN.{length}
 use Rattle.wire.specs.Range.{liesIn}
 use Rattle.wire.specs.Unit.{ramBase}
 use Rattle.command.specs.Payload.{Carried}
-use Rattle.command.specs.Memories.{Memories, Fitting}
-use Rattle.command.specs.Execution.{Answering}
+use Rattle.command_execution.specs.Memories.{Memories, Fitting}
+use Rattle.command_execution.specs.Execution.{Answering}
 use Rattle.uartboot_flow.specs.declared.step.Step.{Step}
 use Rattle.uartboot_flow.specs.declared.step.Step.the-variants.{Greeting, Header, Command, Answer, Refusal, Running}
 use Rattle.uartboot_flow.specs.declared.step.CommandStep.{CommandStep}

@@ -2,7 +2,7 @@
 ghost use mathlib.Core.Path.{_≡_};
 ghost use lib.ListN.{length};
 ghost use Rattle.command.specs.Payload.{Carried};
-ghost use Rattle.command.specs.Memories.{memories, Fitting};
+ghost use Rattle.command_execution.specs.Memories.{memories, Fitting};
 ghost use Rattle.uartboot_flow.specs.Flow.{ends, executes, took, sent};
 ghost use Rattle.uartboot_flow.specs.State.{state};
 ghost use Rattle.uartboot_flow.specs.Gives.{stands, EndsIn};
@@ -11,9 +11,9 @@ use crate::step::AnswerStep;
 use crate::step::CommandStep;
 use crate::step::Progress;
 use crate::step::Step;
-use command::execution::Ending;
-use command::execution::execute;
 use command::opcode::Opcode;
+use command_execution::Ending;
+use command_execution::execute;
 use wire::line::ACK;
 
 // The reason where a byte other than 06 came.

@@ -3,7 +3,7 @@ ghost use mathlib.Core.Path.{_≡_};
 ghost use Prim.Native.Nat.{_<_};
 ghost use lib.ListN.{length};
 ghost use Rattle.command.specs.Payload.{Carried};
-ghost use Rattle.command.specs.Memories.{memories};
+ghost use Rattle.command_execution.specs.Memories.{memories};
 ghost use Rattle.uartboot_flow.specs.Flow as flow;
 ghost use Rattle.uartboot_flow.specs.State.{state};
 ghost use Rattle.uartboot_flow.specs.Gives.{stands, Taken};

@@ -4,7 +4,7 @@ ghost use mathlib.Core.Bool.{true};
 ghost use Prim.Native.Nat.{_<_};
 ghost use lib.ListN.{length};
 ghost use Rattle.wire.specs.Length.{isWorkLength};
-ghost use Rattle.command.specs.Memories.{memories};
+ghost use Rattle.command_execution.specs.Memories.{memories};
 ghost use Rattle.uartboot_flow.specs.Ask.{askOf};
 ghost use Rattle.uartboot_flow.specs.Flow.{took};
 ghost use Rattle.uartboot_flow.specs.Sound.{Ready, InWork};

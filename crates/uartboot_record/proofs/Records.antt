@@ -15,8 +15,8 @@ use Rattle.command.specs.declared.opcode.Lookup.{Lookup}
 use Rattle.command.specs.declared.opcode.Lookup.the-variants.{Known, Unknown}
 use Rattle.command.specs.Opcode.{opcodeNumber, opcodeOf, hasLength, hasAnswer}
 use Rattle.command.specs.Payload.{Carried}
-use Rattle.command.specs.Execution.{Answering}
 use Rattle.command.proofs.Opcodes.{opcode-back}
+use Rattle.command_execution.specs.Execution.{Answering}
 use Rattle.uartboot_flow.specs.declared.step.Step.{Step}
 use Rattle.uartboot_flow.specs.declared.step.Step.the-variants.{Greeting, Header, Command, Answer, Refusal, Running}
 use Rattle.uartboot_flow.specs.declared.step.HeaderStep.the-variants.{TakeSoh, TakeOpcode, TakeLow, TakeHigh}

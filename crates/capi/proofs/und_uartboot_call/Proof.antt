@@ -1,6 +1,6 @@
 -- `capi::und_uartboot_call`: what C gets is the session's answer.
 -- Assumes nothing.
-use Rattle.command.specs.Memories.{memories}
+use Rattle.command_execution.specs.Memories.{memories}
 use Rattle.uartboot.specs.Session.{uartboot}
 use Rattle.capi.proofs.Boundary.{given-back}
 use borrow.Author.Needs.{needs}

@@ -6,7 +6,7 @@ use native.Mathlib.Omega.{arith}
 use lib.ListN.{length}
 use borrow.Author.Needs.{needs}
 use Rattle.machine.proofs.Repeats.{takes-fit, sends-fit, sends-length}
-use Rattle.command.specs.Memories.{memories}
+use Rattle.command_execution.specs.Memories.{memories}
 use Rattle.uartboot_flow.specs.Due.{device}
 use Rattle.uartboot.proofs.Turns.{Turn, begins, took-turn, sent-turn, hungry, choked, halts}
 use Rattle.uartboot.proofs.session.act.Statement.{statement}

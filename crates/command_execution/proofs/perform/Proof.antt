@@ -1,4 +1,4 @@
--- `command::execution::perform`: what the checks say of each command, and the effect of the call that does it.
+-- `command_execution::perform`: what the checks say of each command, and the effect of the call that does it.
 -- Assumes nothing.
 use Prim.Native.Nat.{ℕ}
 use mathlib.Core.Path.{ap}
@@ -8,13 +8,13 @@ use native.Mathlib.Omega.{arith}
 use borrow.Author.Needs.{needs}
 use Rattle.memory.specs.Store.{laid, partOf}
 use Rattle.memory.proofs.Stores.{changed-part, part-length}
-use Rattle.command.specs.declared.execution.Ending.the-variants.{Silent}
 use Rattle.command.specs.Payload.{writeData}
-use Rattle.command.specs.Memories.{memories}
-use Rattle.command.specs.Execution.{ended, placeOf}
-use Rattle.command.proofs.Ready.{ready}
-use Rattle.command.proofs.execution.perform.Statement.{statement}
-use Rattle.command.proofs.execution.perform.Tie as tie
+use Rattle.command_execution.specs.declared.Ending.the-variants.{Silent}
+use Rattle.command_execution.specs.Memories.{memories}
+use Rattle.command_execution.specs.Execution.{ended, placeOf}
+use Rattle.command_execution.proofs.Ready.{ready}
+use Rattle.command_execution.proofs.perform.Statement.{statement}
+use Rattle.command_execution.proofs.perform.Tie as tie
 
 enum-known-command : tie.Need-enum-known-command
 enum-known-command c = search needs

@@ -1,10 +1,10 @@
--- `command::execution::answer`: as many bytes are laid as are asked for.
+-- `command_execution::answer`: as many bytes are laid as are asked for.
 -- Assumes nothing.
 use mathlib.Core.Path.{refl}
 use native.Mathlib.Nat.{add-sub-cancel-left}
 use borrow.Author.Needs.{needs}
-use Rattle.command.proofs.execution.answer.Statement.{statement}
-use Rattle.command.proofs.execution.answer.Tie as tie
+use Rattle.command_execution.proofs.answer.Statement.{statement}
+use Rattle.command_execution.proofs.answer.Tie as tie
 
 add-end : tie.Need-add-end
 add-end c = search needs

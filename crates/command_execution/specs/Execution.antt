@@ -11,15 +11,15 @@ use Rattle.wire.specs.declared.unit.RamAddress.{RamAddress}
 use Rattle.memory.specs.Store.{laid, changedFrom, partOf}
 use Rattle.memory.specs.Flash.{burnt, blank, erased}
 use Rattle.memory.specs.Compare.{stands}
 use Rattle.command.specs.declared.opcode.Opcode.{Opcode}
 use Rattle.command.specs.declared.payload.Command.{Command}
 use Rattle.command.specs.declared.payload.Command.the-variants.{Write, Read, Copy, Erase, Run, ReadQspi, Version, ChipErase, DirectWrite}
-use Rattle.command.specs.declared.execution.Ending.{Ending}
-use Rattle.command.specs.declared.execution.Ending.the-variants.{Silent, Answers, Runs, Failed}
 use Rattle.command.specs.Opcode.{hasAnswer}
 use Rattle.command.specs.Payload.{writeData, directWriteData, commandOf}
 use Rattle.command.specs.Demand.{demandsOf, judged}
-use Rattle.command.specs.Memories.{Memories, memories, Fitting}
+use Rattle.command_execution.specs.declared.Ending.{Ending}
+use Rattle.command_execution.specs.declared.Ending.the-variants.{Silent, Answers, Runs, Failed}
+use Rattle.command_execution.specs.Memories.{Memories, memories, Fitting}
 
 -- flash differs from the command's data
 abbrev pub verifyDiffers : ℕ

@@ -1,4 +1,4 @@
-// What a command does to the memories, and how it ends.
+// What each of uartboot's commands does to the memories, and how it ends.
 ghost use mathlib.Core.Path.{_≡_};
 ghost use Prim.Native.Nat.{_+_, _-_, _≤_};
 ghost use lib.ListN.{length};
@@ -6,15 +6,15 @@ ghost use Rattle.memory.specs.Store.{laid, changedFrom, partOf};
 ghost use Rattle.memory.specs.Flash.{burnt};
 ghost use Rattle.memory.specs.Compare.{stands};
 ghost use Rattle.wire.specs.Unit.{ramBase};
 ghost use Rattle.command.specs.Payload.{Carried};
-ghost use Rattle.command.specs.Memories.{memories, Fitting};
-ghost use Rattle.command.specs.Execution.{ended, verified, performed, executed, Allowed};
-use crate::demand::check;
-use crate::opcode::Opcode;
-use crate::payload::Command;
-use crate::payload::DIRECT_WRITE_DATA;
-use crate::payload::WRITE_DATA;
-use crate::payload::command_of;
+ghost use Rattle.command_execution.specs.Memories.{memories, Fitting};
+ghost use Rattle.command_execution.specs.Execution.{ended, verified, performed, executed, Allowed};
+use command::demand::check;
+use command::opcode::Opcode;
+use command::payload::Command;
+use command::payload::DIRECT_WRITE_DATA;
+use command::payload::WRITE_DATA;
+use command::payload::command_of;
 use memory::compare::stands;
 use memory::flash::burn;
 use memory::flash::erase;

@@ -1,13 +1,13 @@
--- `command::execution::execute`: the payload's command, judged again, and performed where nothing is against it.
+-- `command_execution::execute`: the payload's command, judged again, and performed where nothing is against it.
 -- Assumes nothing.
 use mathlib.Core.Path.{sym, _∙_}
 use native.Mathlib.Nat.{le-trans}
 use borrow.Author.Needs.{needs}
-use Rattle.command.specs.Memories.{memories}
-use Rattle.command.proofs.DataEnds.{data-end-in}
-use Rattle.command.proofs.Executions.{performs, refuses}
-use Rattle.command.proofs.execution.execute.Statement.{statement}
-use Rattle.command.proofs.execution.execute.Tie as tie
+use Rattle.command_execution.specs.Memories.{memories}
+use Rattle.command_execution.proofs.DataEnds.{data-end-in}
+use Rattle.command_execution.proofs.Executions.{performs, refuses}
+use Rattle.command_execution.proofs.execute.Statement.{statement}
+use Rattle.command_execution.proofs.execute.Tie as tie
 
 command-of-requires : tie.Need-command-of-requires
 command-of-requires c κs = search needs

@@ -5,12 +5,12 @@ use mathlib.Core.Path.{_≡_}
 use mathlib.Core.Bool.{true}
 use mathlib.Core.List.{List}
 use native.Mathlib.Omega.{arith}
 use Rattle.command.specs.declared.opcode.Opcode.{Opcode}
 use Rattle.command.specs.declared.opcode.Opcode.the-variants.{Write, Read, Copy, Erase, Run, ReadQspi, Version, ChipErase, DirectWrite}
 use Rattle.command.specs.Opcode.{hasLength}
 use Rattle.command.specs.Payload.{commandOf}
-use Rattle.command.specs.Execution.{dataEnd}
 use Rattle.command.proofs.Opcodes.{never-shorter}
+use Rattle.command_execution.specs.Execution.{dataEnd}
 
 pub data-end-in : (opcode : Opcode) (count : ℕ) (work : List ℕ) → hasLength opcode count ≡ true
     → dataEnd (commandOf opcode count work) ≤ count

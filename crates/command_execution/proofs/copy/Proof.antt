@@ -1,4 +1,4 @@
--- `command::execution::copy`: the part of flash from the offset on is burnt, and put back.
+-- `command_execution::copy`: the part of flash from the offset on is burnt, and put back.
 -- Assumes nothing.
 use Prim.Native.Nat.{_-_}
 use native.Mathlib.Nat.{add-sub-cancel-left}
@@ -8,8 +8,8 @@ use Rattle.wire.specs.Unit.{ramBase}
 use Rattle.memory.specs.Store.{partOf}
 use Rattle.memory.specs.Flash.{burnt}
 use Rattle.memory.proofs.Stores.{changed-part}
-use Rattle.command.proofs.execution.copy.Statement.{statement}
-use Rattle.command.proofs.execution.copy.Tie as tie
+use Rattle.command_execution.proofs.copy.Statement.{statement}
+use Rattle.command_execution.proofs.copy.Tie as tie
 
 index-of-requires : tie.Need-index-of-requires
 index-of-requires c κs = search needs

@@ -16,19 +16,19 @@ use Rattle.memory.specs.Flash.{burnt, Area}
 use Rattle.memory.specs.Compare.{stands}
 use Rattle.memory.proofs.Stores.{changed-length, laid-length, part-length}
 use Rattle.memory.proofs.Flashes.{burnt-length, erased-length}
 use Rattle.command.specs.declared.opcode.Opcode.{Opcode}
 use Rattle.command.specs.declared.opcode.Opcode.the-variants.{Write, Read, Copy, Erase, Run, ReadQspi, Version, ChipErase, DirectWrite}
 use Rattle.command.specs.declared.payload.Command.{Command}
 use Rattle.command.specs.declared.payload.Command.the-variants as command
-use Rattle.command.specs.declared.execution.Ending.{Ending}
-use Rattle.command.specs.declared.execution.Ending.the-variants.{Silent, Answers, Runs, Failed}
 use Rattle.command.specs.Opcode.{hasAnswer, isRun}
 use Rattle.command.specs.Payload.{addressAt, offsetAt, writeData, directWriteData, commandOf}
 use Rattle.command.specs.Demand.{demandsOf}
-use Rattle.command.specs.Memories.{Memories, Fitting, SameLengths}
-use Rattle.command.specs.Execution.{Executed, ended, isRunning, isAnswering, checked, executed, performed, Answering}
-use Rattle.command.specs.Execution.{placeOf, version, answered, directWritten, verifyDiffers}
-use Rattle.command.proofs.Demands.{Passed, allowed}
+use Rattle.command_execution.specs.declared.Ending.{Ending}
+use Rattle.command_execution.specs.declared.Ending.the-variants.{Silent, Answers, Runs, Failed}
+use Rattle.command_execution.specs.Memories.{Memories, Fitting, SameLengths}
+use Rattle.command_execution.specs.Execution.{Executed, ended, isRunning, isAnswering, checked, executed, performed, Answering}
+use Rattle.command_execution.specs.Execution.{placeOf, version, answered, directWritten, verifyDiffers}
+use Rattle.command_execution.proofs.Demands.{Passed, allowed}
 
 -- the command that a payload says, and the reason against it
 module _ (opcode : Opcode) (count : ℕ) (m : Memories) (said : Command) (is-said : said ≡ commandOf opcode count (m .work))

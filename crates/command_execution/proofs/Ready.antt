@@ -4,10 +4,10 @@ use Prim.Native.Nat.{ℕ, _≤_}
 use mathlib.Core.Path.{_≡_}
 use Rattle.wire.specs.Length.{largestWork}
 use Rattle.wire.proofs.Lengths.{work-bounds}
 use Rattle.command.specs.declared.payload.Command.{Command}
 use Rattle.command.specs.Demand.{demandsOf}
-use Rattle.command.specs.Execution.{dataEnd, Allowed}
-use Rattle.command.proofs.Demands.{Passed, allowed}
+use Rattle.command_execution.specs.Execution.{dataEnd, Allowed}
+use Rattle.command_execution.proofs.Demands.{Passed, allowed}
 
 pub record Ready (command : Command) (ram flash work : ℕ) : Type 0 where
   pub passed : Passed ram flash work (demandsOf command)

@@ -1,4 +1,4 @@
--- `command::execution::direct_write`: the part of flash from the offset on is burnt and put back, and compared as it is then.
+-- `command_execution::direct_write`: the part of flash from the offset on is burnt and put back, and compared as it is then.
 -- Assumes nothing.
 use Prim.Native.Nat.{_-_}
 use mathlib.Core.Path.{_≡_, sym, _∙_}
@@ -10,8 +10,8 @@ use borrow.Rule.Slice.PartMut.{putMid}
 use Rattle.memory.specs.Store.{changedFrom}
 use Rattle.memory.specs.Flash.{burnt}
 use Rattle.memory.proofs.Stores.{to-end, changed-part}
-use Rattle.command.proofs.execution.direct_write.Statement.{statement}
-use Rattle.command.proofs.execution.direct_write.Tie as tie
+use Rattle.command_execution.proofs.direct_write.Statement.{statement}
+use Rattle.command_execution.proofs.direct_write.Tie as tie
 
 sub-burn : tie.Need-sub-burn
 sub-burn c = search needs

@@ -1,0 +1,4 @@
+pub mod DataEnds
+pub mod Demands
+pub mod Ready
+pub mod Executions

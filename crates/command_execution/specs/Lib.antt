@@ -1,0 +1,2 @@
+pub mod Memories
+pub mod Execution
