@@ -31,6 +31,7 @@ Asked (Take (taking.Payload opcode n p)) s = s ≡ Command opcode n (TakePayload
 Asked (Take (taking.Go opcode n)) s = s ≡ Command opcode n TakeGo
 Asked (Send sending.Byte) s = Unit {0}
 Asked (Send (sending.Acceptance opcode n)) s = s ≡ Command opcode n SendAck
+Asked (Send (sending.Crc opcode n)) s = s ≡ Command opcode n SendCrcLow
 Asked (Send (sending.Answer opcode n p)) s = s ≡ Answer opcode n (a.SendAnswer p)
 Asked Halt s = Unit {0}
 
@@ -38,7 +39,7 @@ command-asked : (opcode : Opcode) (n : ℕ) (step : CommandStep) → Asked (askO
 command-asked opcode n SendAck = refl
 command-asked opcode n (TakePayload p) = refl
 command-asked opcode n SendPayloadAck = tt
-command-asked opcode n SendCrcLow = tt
+command-asked opcode n SendCrcLow = refl
 command-asked opcode n SendCrcHigh = tt
 command-asked opcode n TakeGo = refl
 

@@ -1,12 +1,13 @@
--- Payload bytes taken one by one are one copy into the work buffer; answer bytes sent one by one are one copy into the reply.
+-- Payload bytes taken one by one are one copy into the work buffer; answer bytes sent one by one are one copy into the reply; the
+-- payload's CRC, both bytes or the first alone, is as many stores there.
 -- Assumes nothing.
-use Prim.Native.Nat.{ℕ, zero, suc, _+_, _-_, _<_, _≤_, min}
+use Prim.Native.Nat.{ℕ, zero, suc, _+_, _-_, _/_, _%_, _<_, _≤_, min}
 use native.Mathlib.Omega.{arith}
 use native.Mathlib.Nat.{add-zero, add-suc}
 use native.Mathlib.Numerals.{add-one}
 use mathlib.Core.Path.{_≡_, refl}
 use mathlib.Core.List.{List}
-use lib.ListN.{length, take, drop, length-drop}
+use lib.ListN.{length, set, take, drop, length-drop}
 use lib.Seq.{getD-drop, getD-take, length-take-le, paste, paste-zero, paste-suc}
 use borrow.Author.Tests.{lt-ltb}
 use Rattle.memory.specs.Copy.{Copied}
@@ -14,14 +15,16 @@ use Rattle.machine.specs.Steps.{Takes, Sends}
 use Rattle.machine.specs.Steps as steps
 use Rattle.machine.proofs.Repeats.{sends-length}
 use Rattle.command.specs.declared.opcode.Opcode.{Opcode}
-use Rattle.command_execution.specs.Memories.{memories}
+use Rattle.command_execution.specs.Memories.{Memories, memories}
 use Rattle.uartboot_flow.specs.declared.step.Step.the-variants.{Command, Answer}
-use Rattle.uartboot_flow.specs.declared.step.CommandStep.the-variants.{TakePayload}
+use Rattle.uartboot_flow.specs.declared.step.CommandStep.the-variants.{TakePayload, SendCrcLow, SendCrcHigh, TakeGo}
 use Rattle.uartboot_flow.specs.declared.step.AnswerStep.the-variants.{SendAnswer}
+use Rattle.uartboot_flow.specs.declared.ask.Sending.the-variants.{Crc}
 use Rattle.uartboot_flow.specs.State.{State, state}
-use Rattle.uartboot_flow.specs.Flow.{arrived, showed}
+use Rattle.uartboot_flow.specs.Flow.{crc16, arrived, showed}
 use Rattle.uartboot_flow.specs.Due.{device}
-use Rattle.uartboot_flow.specs.Gives.{Taken, Shown}
+use Rattle.uartboot_flow.specs.Gives.{progress, Taken, Shown}
+use Rattle.uartboot_flow.proofs.Turns.{moved, sends-one}
 
 module _ (opcode : Opcode) (n p reason : ℕ) (input : List ℕ) (i : ℕ) (ram flash work : List ℕ) (inside : p < n) (fits : n ≤ length work) where
   payload-run : (q : ℕ) → q ≤ n - p → i + q ≤ length input →
@@ -71,3 +74,16 @@ module _ (opcode : Opcode) (n p reason : ℕ) (ram flash work : List ℕ) (old :
       let k : length (take n work) ≡ n = length-take-le n work fits in
       let x : q ≡ min (length old - j) (length (take n work) - p) = c .count-is in
       record { some = omega arith; sends = rw (e, c .memory-is) (answer-run q (omega arith) (omega arith)) }
+
+module _ (opcode : Opcode) (n reason : ℕ) (m : Memories) (crc : ℕ) (is : crc ≡ crc16 n (m .work)) (old : List ℕ) (j : ℕ) where
+  pub crc-low-shown : j < length old →
+      Shown (state (Command opcode n SendCrcLow) reason m) j old 1 (state (Command opcode n SendCrcHigh) reason m) (set old j (crc % 256))
+  crc-low-shown h =
+      let p = progress (Command opcode n SendCrcHigh) reason in
+      sends-one (Command opcode n SendCrcLow) reason m (Crc opcode n) refl old j h (crc % 256) (rw is) p m refl (moved p) refl
+
+  pub crc-shown : j + 1 < length old →
+      Shown (state (Command opcode n SendCrcLow) reason m) j old 2 (state (Command opcode n TakeGo) reason m) (set (set old j (crc % 256)) (j + 1) (crc / 256))
+  crc-shown h =
+      let low = rw is at (crc-low-shown (omega arith) .sends) in
+      record { some = omega arith; sends = rw is (steps.more low refl refl (omega (arith, sends-length device low))) }

@@ -14,7 +14,7 @@ use Rattle.command.specs.Payload.{Carried}
 use Rattle.command_execution.specs.Memories.{Memories}
 use Rattle.uartboot_flow.specs.declared.step.Step.{Step}
 use Rattle.uartboot_flow.specs.declared.step.Step.the-variants.{Command, Answer}
-use Rattle.uartboot_flow.specs.declared.step.CommandStep.the-variants.{SendAck, TakePayload, TakeGo}
+use Rattle.uartboot_flow.specs.declared.step.CommandStep.the-variants.{SendAck, TakePayload, SendCrcLow, TakeGo}
 use Rattle.uartboot_flow.specs.declared.step.AnswerStep.the-variants.{SendAnswer}
 use Rattle.uartboot_flow.specs.declared.step.Progress.{Progress}
 use Rattle.uartboot_flow.specs.declared.step.Moved.{Moved}
@@ -61,6 +61,11 @@ pub sent-on : (step next : Step) (reason : ℕ) (m : Memories) (p : Progress) �
     stands p m ≡ sent (state step reason m)
 sent-on step next reason m p e h = rw e (h .is reason m)
 
+-- what s sends, where the step is s
+pub shown-at : {step s : Step} {reason j count : ℕ} {m : Memories} {old reply : List ℕ} {t : State} → step ≡ s →
+    Shown (state s reason m) j old count t reply → Shown (state step reason m) j old count t reply
+shown-at e h = rw e h
+
 -- what is asked, where the program has found out which ask it is: what its parts may rely on, and what they then give
 module _ (step : Step) (reason : ℕ) (m : Memories) (ready : Ready step m) where
   pub in-work : InWork step (length (m .work))
@@ -104,14 +109,16 @@ module _ (step : Step) (reason : ℕ) (m : Memories) (ready : Ready step m) wher
     pub accept-byte : (opcode : Opcode) (n : ℕ) → x ≡ sending.Acceptance opcode n → ack ≡ byteOf (does (state step reason m))
     accept-byte opcode n f = rw (accept-step opcode n f) refl
 
-    answer-step : (opcode : Opcode) (n p : ℕ) → x ≡ sending.Answer opcode n p → step ≡ Answer opcode n (SendAnswer p)
+    pub crc-step : (opcode : Opcode) (n : ℕ) → x ≡ sending.Crc opcode n → step ≡ Command opcode n SendCrcLow
+    crc-step opcode n f = asked step (Send (sending.Crc opcode n)) (e ∙ ap Send f)
+
+    pub crc-ready : (opcode : Opcode) (n : ℕ) → x ≡ sending.Crc opcode n → n ≤ length (m .work)
+    crc-ready opcode n f = sound-at (Command opcode n SendCrcLow) (crc-step opcode n f) .0 .in-work
+
+    pub answer-step : (opcode : Opcode) (n p : ℕ) → x ≡ sending.Answer opcode n p → step ≡ Answer opcode n (SendAnswer p)
     answer-step opcode n p f = asked step (Send (sending.Answer opcode n p)) (e ∙ ap Send f)
 
     pub answer-ready : (opcode : Opcode) (n p : ℕ) → x ≡ sending.Answer opcode n p → (p < n) × (n ≤ length (m .work))
     answer-ready opcode n p f =
         let h = sound-at (Answer opcode n (SendAnswer p)) (answer-step opcode n p f) in
         (h .1, h .0 .in-work)
-
-    pub answer-turn : (opcode : Opcode) (n p : ℕ) → x ≡ sending.Answer opcode n p → (old : List ℕ) (j count : ℕ) (t : State) (reply : List ℕ) →
-        Shown (state (Answer opcode n (SendAnswer p)) reason m) j old count t reply → Shown (state step reason m) j old count t reply
-    answer-turn opcode n p f old j count t reply h = rw (answer-step opcode n p f) h

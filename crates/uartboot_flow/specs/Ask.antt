@@ -17,7 +17,7 @@ abbrev pub askCommand : Opcode → (length : ℕ) → CommandStep → Ask
 askCommand opcode length SendAck = Send (sending.Acceptance opcode length)
 askCommand opcode length (TakePayload place) = Take (taking.Payload opcode length place)
 askCommand opcode length SendPayloadAck = Send sending.Byte
-askCommand opcode length SendCrcLow = Send sending.Byte
+askCommand opcode length SendCrcLow = Send (sending.Crc opcode length)
 askCommand opcode length SendCrcHigh = Send sending.Byte
 askCommand opcode length TakeGo = Take (taking.Go opcode length)
 

@@ -14,11 +14,12 @@ pub enum Taking {
     Go(Opcode, u32),
 }
 
-// A byte that changes no memory; the 06 for a header, after which a command without payload is executed; bytes of an answer, with its
-// opcode and length and the next place.
+// A byte that changes no memory; the 06 for a header, after which a command without payload is executed; a payload's CRC, with its
+// opcode and length; bytes of an answer, with its opcode and length and the next place.
 pub enum Sending {
     Byte,
     Acceptance(Opcode, u32),
+    Crc(Opcode, u32),
     Answer(Opcode, u32, u32),
 }
 
@@ -36,7 +37,7 @@ fn ask_command(opcode: Opcode, length: u32, step: CommandStep) -> Ask
         CommandStep::SendAck => Ask::Send(Sending::Acceptance(opcode, length)),
         CommandStep::TakePayload(place) => Ask::Take(Taking::Payload(opcode, length, place)),
         CommandStep::SendPayloadAck => Ask::Send(Sending::Byte),
-        CommandStep::SendCrcLow => Ask::Send(Sending::Byte),
+        CommandStep::SendCrcLow => Ask::Send(Sending::Crc(opcode, length)),
         CommandStep::SendCrcHigh => Ask::Send(Sending::Byte),
         CommandStep::TakeGo => Ask::Take(Taking::Go(opcode, length)),
     }

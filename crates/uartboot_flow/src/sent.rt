@@ -22,13 +22,14 @@ use wire::line::NAK;
 
 fn command_byte(opcode: Opcode, size: u32, step: CommandStep, work: &[u8]) -> u8
     requires { ⌜ size ≤ length (now work) ⌝ }
+    requires { ⌜ askOf (Step.Command opcode size step) ≡ Ask.Send Sending.Byte ⌝ }
     ensures { λ r. ⌜ ByteOf (now (work .entry)) (Step.Command opcode size step) r ⌝ }
 {
     match step {
         CommandStep::SendAck => ACK,
         CommandStep::TakePayload(_) => 0,
         CommandStep::SendPayloadAck => ACK,
-        CommandStep::SendCrcLow => (crc_of(size, work) % 256) as u8,
+        CommandStep::SendCrcLow => 0,
         CommandStep::SendCrcHigh => (crc_of(size, work) / 256) as u8,
         CommandStep::TakeGo => 0,
     }
@@ -82,10 +83,10 @@ fn sent_command(opcode: Opcode, size: u32, step: CommandStep) -> Step
 {
     match step {
         CommandStep::SendPayloadAck => Step::Command(opcode, size, CommandStep::SendCrcLow),
-        CommandStep::SendCrcLow => Step::Command(opcode, size, CommandStep::SendCrcHigh),
         CommandStep::SendCrcHigh => Step::Command(opcode, size, CommandStep::TakeGo),
         CommandStep::SendAck => Step::Command(opcode, size, step),
         CommandStep::TakePayload(_) => Step::Command(opcode, size, step),
+        CommandStep::SendCrcLow => Step::Command(opcode, size, step),
         CommandStep::TakeGo => Step::Command(opcode, size, step),
     }
 }

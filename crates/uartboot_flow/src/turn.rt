@@ -1,4 +1,4 @@
-// One turn of the session: takes or sends what the step asks, in bulk where it is a payload or an answer.
+// One turn of the session: takes or sends what the step asks, in bulk where it is a payload, its CRC or an answer.
 ghost use mathlib.Core.Path.{_≡_};
 ghost use mathlib.Core.Bool.{true};
 ghost use Prim.Native.Nat.{_<_};
@@ -15,6 +15,7 @@ use crate::answer::took_answer;
 use crate::ask::Ask;
 use crate::ask::Sending;
 use crate::ask::Taking;
+use crate::checksum::send_crc;
 use crate::go::accept;
 use crate::go::take_go;
 use crate::header::to;
@@ -105,6 +106,7 @@ pub fn send(
             reply[j] = ACK;
             one(accept(opcode, size, reason, ram, flash, work))
         }
+        Sending::Crc(opcode, size) => send_crc(opcode, size, reason, work, reply, j),
         Sending::Answer(opcode, size, place) => {
             send_answer(opcode, size, place, reason, work, reply, j)
         }

@@ -14,7 +14,10 @@ enum-known-step-2 : tie.Need-enum-known-step-2
 enum-known-step-2 c = search needs
 
 command-byte-requires : tie.Need-command-byte-requires
-command-byte-requires c κs = rw (c .before .step2 .given .1) at (c .before .before .before .before .pre .0 .0)
+command-byte-requires c κs =
+    let arm = c .before .step2 .given .1 in
+    let p = c .before .before .before .before .pre in
+    (rw arm at (p .0 .0), rw arm at (p .1))
 
 enum-known-step-3 : tie.Need-enum-known-step-3
 enum-known-step-3 c = search needs

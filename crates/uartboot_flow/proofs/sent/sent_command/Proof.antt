@@ -1,4 +1,4 @@
--- `uartboot_flow::sent::sent_command`: step by step; the header's 06 is not among them.
+-- `uartboot_flow::sent::sent_command`: step by step; the header's 06 and the CRC's low byte are not among them.
 -- Assumes nothing.
 use borrow.Author.Needs.{needs}
 use Rattle.uartboot_flow.proofs.sent.sent_command.Statement.{statement}
@@ -29,15 +29,17 @@ returns-2 : tie.Need-returns-2
 returns-2 c = record { is = λ reason m. simp (c .enum-told2 .given .1) }
 
 returns-3 : tie.Need-returns-3
-returns-3 c = record { is = λ reason m. simp (c .enum-told3 .given .1) }
-
-returns-4 : tie.Need-returns-4
-returns-4 c =
-    let no = rw (c .enum-told4 .given .1) at (c .before .before .pre) in
+returns-3 c =
+    let no = rw (c .enum-told3 .given .1) at (c .before .before .pre) in
     record { is = λ reason m. cc (no) }
 
+returns-4 : tie.Need-returns-4
+returns-4 c = record { is = λ reason m. simp (c .enum-told4 .given .1) }
+
 returns-5 : tie.Need-returns-5
-returns-5 c = record { is = λ reason m. simp (c .enum-told5 .given .1) }
+returns-5 c =
+    let no = rw (c .enum-told5 .given .1) at (c .before .before .pre) in
+    record { is = λ reason m. cc (no) }
 
 returns-6 : tie.Need-returns-6
 returns-6 c = record { is = λ reason m. simp (c .enum-told6 .given .1) }

@@ -3,7 +3,7 @@
 use mathlib.Core.Path.{_∙_, ap}
 use Rattle.uartboot_flow.specs.declared.ask.Ask.the-variants.{Send}
 use Rattle.uartboot_flow.specs.declared.ask.Sending.the-variants as sending
-use Rattle.uartboot_flow.proofs.Turns.{sends-one, sent-on, in-work, accept-ready, accept-sent, accept-byte, answer-ready, answer-turn}
+use Rattle.uartboot_flow.proofs.Turns.{sends-one, sent-on, in-work, accept-ready, accept-sent, accept-byte, crc-step, crc-ready, answer-step, answer-ready, shown-at}
 use borrow.Author.Needs.{needs}
 use Rattle.uartboot_flow.proofs.turn.send.Statement.{statement}
 use Rattle.uartboot_flow.proofs.turn.send.Tie as tie
@@ -47,10 +47,18 @@ one-requires-2 c κs = search needs
 enum-known-sending-2 : tie.Need-enum-known-sending-2
 enum-known-sending-2 c = search needs
 
+send-crc-requires : tie.Need-send-crc-requires
+send-crc-requires c κs =
+    let base = c .before .before .before .before .before .before .before .before .before in
+    (crc-ready _ 0 _ (base .pre .0) _ (base .pre .1 .0) _ _ (c .before .before .before .sending2 .given .1), base .pre .1 .1)
+
+enum-known-sending-3 : tie.Need-enum-known-sending-3
+enum-known-sending-3 c = search needs
+
 send-answer-requires : tie.Need-send-answer-requires
 send-answer-requires c κs =
     let base = c .before .before .before .before .before .before .before .before .before in
-    let h = answer-ready _ 0 _ (base .pre .0) _ (base .pre .1 .0) _ _ _ (c .before .before .before .sending2 .given .1) in
+    let h = answer-ready _ 0 _ (base .pre .0) _ (base .pre .1 .0) _ _ _ (c .before .before .before .sending3 .given .1) in
     (h .0, h .1, base .pre .1 .1)
 
 same-length : tie.Need-same-length
@@ -93,7 +101,18 @@ same-length-8 c = search needs
 returns-3 : tie.Need-returns-3
 returns-3 c =
     let base = c .before .before .before .before .before .before .before .before .before .before .before .before in
-    answer-turn _ _ _ (base .pre .0) _ (base .pre .1 .0) _ _ _ (c .before .before .before .before .before .before .sending2 .given .1) _ _ _ _ _ (c .before .before .send-answer .ensures .is _ _)
+    shown-at (crc-step _ 0 _ (base .pre .0) _ (base .pre .1 .0) _ _ (c .before .before .before .before .before .before .sending2 .given .1)) (c .before .before .send-crc .ensures .is _ _)
+
+same-length-9 : tie.Need-same-length-9
+same-length-9 c = search needs
+
+same-length-10 : tie.Need-same-length-10
+same-length-10 c = search needs
+
+returns-4 : tie.Need-returns-4
+returns-4 c =
+    let base = c .before .before .before .before .before .before .before .before .before .before .before .before in
+    shown-at (answer-step _ 0 _ (base .pre .0) _ (base .pre .1 .0) _ _ _ (c .before .before .before .before .before .before .sending3 .given .1)) (c .before .before .send-answer .ensures .is _ _)
 
 pub send-spec : {M : Type 1} → statement M
 send-spec =
@@ -110,6 +129,8 @@ send-spec =
     accept-requires
     one-requires-2
     enum-known-sending-2
+    send-crc-requires
+    enum-known-sending-3
     send-answer-requires
     same-length
     same-length-2
@@ -121,4 +142,7 @@ send-spec =
     returns-2
     same-length-7
     same-length-8
-    returns-3)
+    returns-3
+    same-length-9
+    same-length-10
+    returns-4)
