@@ -2,10 +2,11 @@
 ghost use mathlib.Core.Path.{_≡_};
 ghost use Prim.Native.Nat.{_≤_, _<_};
 ghost use lib.ListN.{length};
-ghost use Rattle.uartboot_flow.specs.Flow.{crc16, hosted, took};
+ghost use Rattle.uartboot_flow.specs.Flow.{hosted, took};
 ghost use Rattle.uartboot_flow.specs.Flow as flow;
 ghost use Rattle.uartboot_flow.specs.State.{state};
 ghost use Rattle.uartboot_flow.specs.Gives.{Gives, ShownFrom};
+use crate::checksum::crc_of;
 use crate::go::NOT_ACKED;
 use crate::header::pair;
 use crate::header::to;
@@ -19,15 +20,6 @@ use wire::line::ACK;
 
 // The reason where the host's CRC differs.
 pub const CRC_DIFFERS: u32 = 19;
-
-// The CRC-16 of the first bytes of the work buffer.
-pub fn crc_of(count: u32, work: &[u8]) -> u16
-    requires { ⌜ count ≤ length (now work) ⌝ }
-    ensures { λ r. ⌜ r ≡ crc16 count (now (work .entry)) ⌝ }
-{
-    let end = count as usize;
-    crc::crc16::crc_of(&work[..end])
-}
 
 // The host's CRC is compared with the answer's.
 fn judge_crc(opcode: Opcode, size: u32, crc: usize, reason: u32, work: &[u8]) -> Progress

@@ -1,15 +1,25 @@
-// The payload's CRC: where the reply has room for both of its bytes, one computation serves both.
+// CRCs of the work buffer. Where the reply has room for both bytes of a payload's, one computation serves both.
+ghost use mathlib.Core.Path.{_≡_};
 ghost use Prim.Native.Nat.{_≤_, _<_};
 ghost use lib.ListN.{length};
+ghost use Rattle.uartboot_flow.specs.Flow.{crc16};
 ghost use Rattle.uartboot_flow.specs.State.{state};
 ghost use Rattle.uartboot_flow.specs.Gives.{ShownFrom};
-use crate::answer::crc_of;
 use crate::step::CommandStep;
 use crate::step::Moved;
 use crate::step::Step;
 use command::opcode::Opcode;
 
-// Sends the CRC's low byte as reply byte j, and its high byte behind that where there is room.
+// The CRC-16 of the first bytes of the work buffer.
+pub fn crc_of(count: u32, work: &[u8]) -> u16
+    requires { ⌜ count ≤ length (now work) ⌝ }
+    ensures { λ r. ⌜ r ≡ crc16 count (now (work .entry)) ⌝ }
+{
+    let end = count as usize;
+    crc::crc16::crc_of(&work[..end])
+}
+
+// Sends the low byte of the payload's CRC as reply byte j, and its high byte behind that where there is room.
 pub fn send_crc(
     opcode: Opcode,
     size: u32,

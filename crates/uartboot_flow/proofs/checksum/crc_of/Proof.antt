@@ -1,11 +1,11 @@
--- `uartboot_flow::answer::crc_of`: the slice is that part of the work buffer.
+-- `uartboot_flow::checksum::crc_of`: the slice is that part of the work buffer.
 -- Assumes nothing.
 use mathlib.Core.Path.{sym}
 use lib.Seq.{length-take-le}
 use borrow.Author.Needs.{needs}
 use Rattle.uartboot_flow.specs.Flow.{crc16}
-use Rattle.uartboot_flow.proofs.answer.crc_of.Statement.{statement}
-use Rattle.uartboot_flow.proofs.answer.crc_of.Tie as tie
+use Rattle.uartboot_flow.proofs.checksum.crc_of.Statement.{statement}
+use Rattle.uartboot_flow.proofs.checksum.crc_of.Tie as tie
 
 slice-aggregate-crc-of : tie.Need-slice-aggregate-crc-of
 slice-aggregate-crc-of c = sym (length-take-le _ _ (c .before .before .pre))
