@@ -164,29 +164,35 @@ void uartboot_record_case(trial *t)
     record_case(t, KIND_UARTBOOT, 20);
 }
 
-/* Lengths at and past their bounds, in every combination. */
+/* A length at or past its bounds, or any up to the last. */
+static size_t some_length(trial *t, const uint32_t *edges, uint32_t count, uint32_t last)
+{
+    return once_in(t->c, 4) ? pick(t->c, last + 1) : edges[pick(t->c, count)];
+}
+
+/* Lengths that are mostly refused, one or several at a time. */
 void length_case(trial *t)
 {
     static const uint32_t rams[] = {1, 131072, 0, 131073};
     static const uint32_t works[] = {64, 65535, 63, 65536, 0, 1};
-    static const uint32_t flashes[] = {4096, 8192, 0, 4095, 4097, 1, 12287, 4194304, 4198400, 4194303};
+    static const uint32_t flashes[] = {4096, 8192, 0, 4095, 4097, 1, 12287};
+    static const uint32_t large_flashes[] = {4194304, 4198400, 4194303};
     uint32_t kind = pick(t->c, 3);
     uint8_t input[12];
     visit v = {.start.kind = kind, .stream = input, .length = pick(t->c, sizeof input)};
-    v.start.contents = contents_of(FIRST_CONTENTS, PICK_OF(t->c, rams), 0, 0);
+    model_memories *m = &v.start.contents;
+    *m = contents_of(FIRST_CONTENTS, some_length(t, rams, 4, MOST_RAM + 32), 0, 0);
     if (kind == KIND_UARTBOOT) {
-        v.start.contents.work_length = PICK_OF(t->c, works);
-        v.start.contents.flash_length = once_in(t->c, 8) ? PICK_OF(t->c, flashes) : flashes[pick(t->c, 7)];
+        m->work_length = some_length(t, works, 6, MOST_WORK + 32);
+        m->flash_length = once_in(t->c, 12) ? some_length(t, large_flashes, 3, MOST_FLASH + SECTOR) : some_length(t, flashes, 7, 3 * SECTOR);
     }
-    fill(t->c, v.start.contents.ram, v.start.contents.ram_length);
-    fill(t->c, v.start.contents.flash, v.start.contents.flash_length);
-    fill(t->c, v.start.contents.work, v.start.contents.work_length);
+    fill(t->c, m->ram, m->ram_length);
+    fill(t->c, m->flash, m->flash_length);
+    fill(t->c, m->work, m->work_length);
     fill(t->c, input, sizeof input);
     model_fresh(kind, v.start.record);
-    v.fresh = true;
-    if (once_in(t->c, 3)) {
+    v.fresh = !once_in(t->c, 3);
+    if (!v.fresh)
         v.start.record[WORD_PHASE] = pick(t->c, 24);
-        v.fresh = false;
-    }
     visit_run(t, &v);
 }

@@ -7,7 +7,7 @@
 static size_t put_decimal(trial *t, char *at)
 {
     static const uint32_t edges[] = {0, 1, 9, 10, 99, 100, 65535, 65536, 65534, 99999, 100000, 4294967295u};
-    uint32_t value = once_in(t->c, 3) ? PICK_OF(t->c, edges) : pick(t->c, 20);
+    uint32_t value = once_in(t->c, 3) ? PICK_OF(t->c, edges) : pick(t->c, once_in(t->c, 3) ? 65536 : 20);
     return (size_t)sprintf(at, once_in(t->c, 30) ? "0%u" : "%u", value);
 }
 

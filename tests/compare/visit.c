@@ -163,7 +163,7 @@ void visit_run(trial *t, const visit *v)
     bool known = v->fresh && !v->alters && lengths_accepted(v);
     if (known)
         expect(v, &want, &expected);
-    uint32_t rounds = 1 + pick(t->c, 6), first = pick(t->c, 4);
+    uint32_t rounds = 2 + pick(t->c, 5), first = pick(t->c, 3);
     for (uint32_t round = 0; round < rounds && !differs(t); round++) {
         cut how = next_cut(t, first + round);
         desk d;
