@@ -8,4 +8,3 @@ pub mod kind;
 pub mod payload;
 pub mod sent;
 pub mod step;
-pub mod turn;

@@ -1,12 +1,12 @@
--- `uartboot_flow::turn::take`: each ask by the part that takes for it.
+-- `uartboot_turn::take`: each ask by the part that takes for it.
 -- Assumes nothing.
 use mathlib.Core.Path.{_∙_, ap}
 use Rattle.uartboot_flow.specs.declared.ask.Ask.the-variants.{Take}
 use Rattle.uartboot_flow.specs.declared.ask.Taking.the-variants as taking
 use Rattle.uartboot_flow.proofs.Turns.{takes-one, in-work, payload-ready, payload-turn, go-ready, go-took}
 use borrow.Author.Needs.{needs}
-use Rattle.uartboot_flow.proofs.turn.take.Statement.{statement}
-use Rattle.uartboot_flow.proofs.turn.take.Tie as tie
+use Rattle.uartboot_turn.proofs.take.Statement.{statement}
+use Rattle.uartboot_turn.proofs.take.Tie as tie
 
 enum-told : tie.Need-enum-told
 enum-told c = search needs

@@ -1,12 +1,12 @@
--- `uartboot_flow::turn::send`: each ask by the part that sends for it.
+-- `uartboot_turn::send`: each ask by the part that sends for it.
 -- Assumes nothing.
 use mathlib.Core.Path.{_∙_, ap}
 use Rattle.uartboot_flow.specs.declared.ask.Ask.the-variants.{Send}
 use Rattle.uartboot_flow.specs.declared.ask.Sending.the-variants as sending
 use Rattle.uartboot_flow.proofs.Turns.{sends-one, sent-on, in-work, accept-ready, accept-sent, accept-byte, crc-step, crc-ready, answer-step, answer-ready, shown-at}
 use borrow.Author.Needs.{needs}
-use Rattle.uartboot_flow.proofs.turn.send.Statement.{statement}
-use Rattle.uartboot_flow.proofs.turn.send.Tie as tie
+use Rattle.uartboot_turn.proofs.send.Statement.{statement}
+use Rattle.uartboot_turn.proofs.send.Tie as tie
 
 enum-told : tie.Need-enum-told
 enum-told c = search needs

@@ -1,9 +1,9 @@
--- `uartboot_flow::turn::took`: group by group; a command's steps are not among them.
+-- `uartboot_turn::took`: group by group; a command's steps are not among them.
 -- Assumes nothing.
 use borrow.Author.Needs.{needs}
 use Rattle.uartboot_flow.proofs.Asks.{command-takes-no-byte}
-use Rattle.uartboot_flow.proofs.turn.took.Statement.{statement}
-use Rattle.uartboot_flow.proofs.turn.took.Tie as tie
+use Rattle.uartboot_turn.proofs.took.Statement.{statement}
+use Rattle.uartboot_turn.proofs.took.Tie as tie
 
 enum-known-step : tie.Need-enum-known-step
 enum-known-step c = search needs
