@@ -194,7 +194,7 @@ enum {
     UND_RECORD_PHASE = 1,  /* what the session does next: see the tables of phases below */
     UND_RECORD_OPCODE = 2, /* uartboot: the command's */
     UND_RECORD_LENGTH = 3, /* of the code, the payload or the answer */
-    UND_RECORD_PLACE = 4,  /* of the next byte there, from 0 */
+    UND_RECORD_PLACE = 4,  /* of the next byte there, or of the greeting, from 0 */
     UND_RECORD_HELD = 5,   /* the low byte of a number whose high byte comes next, or the address at which code runs */
     UND_RECORD_REASON = 6, /* the last reason, 0 at first */
     UND_RECORD_WORDS = 8   /* how many words there are; word 7 is 0 */

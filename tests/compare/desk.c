@@ -7,7 +7,7 @@
 #include <string.h>
 
 /* A little longer than the longest that are accepted. */
-enum { RAM_SHELF = MOST_RAM + 64, FLASH_SHELF = MOST_FLASH + 2 * SECTOR, WORK_SHELF = MOST_WORK + 64, LINE_SHELF = 1 << 18 };
+enum { RAM_SHELF = MOST_RAM + 64, FLASH_SHELF = MOST_FLASH + 2 * SECTOR, WORK_SHELF = MOST_WORK + 64, LINE_SHELF = 1 << 20 };
 
 static struct {
     shelf record, input, reply, ram, flash, work;
@@ -66,6 +66,7 @@ void desk_set(trial *t, desk *d, const setting *s)
 {
     build_shelves();
     d->kind = s->kind;
+    d->fresh = s->fresh;
     d->at_end = !once_in(t->c, 3);
     d->null_if_empty = once_in(t->c, 2);
     d->library.ram = shelf_lend(&shelves.ram, s->contents.ram_length, d->at_end);
@@ -117,10 +118,10 @@ static void note_seen(const desk *d, const model_report *r)
 {
     static const seen_what phases[] = {[KIND_P] = SEEN_ROM_P, [KIND_E] = SEEN_ROM_E, [KIND_UARTBOOT] = SEEN_UARTBOOT};
     const uint32_t *record = d->model_record;
-    seen(SEEN_NUMBER, r->number);
-    seen(SEEN_STANDING, r->standing);
-    if (r->number)
+    seen(d->kind == KIND_UARTBOOT ? SEEN_UARTBOOT_NUMBER : SEEN_ROM_NUMBER, r->number);
+    if (r->number || !d->fresh)
         return;
+    seen(SEEN_STANDING, r->standing);
     seen(phases[record[WORD_KIND]], record[WORD_PHASE]);
     seen(SEEN_REASON, record[WORD_REASON]);
     if (record[WORD_KIND] == KIND_UARTBOOT && (record[WORD_PHASE] == 5 || record[WORD_PHASE] == 10))
@@ -158,6 +159,6 @@ model_report desk_call(trial *t, desk *d, const uint8_t *input, size_t shown, si
         same_bytes(t, "input", piece, input, shown);
     same_record(t, d);
     same_memories(t, d);
-    *reply = model_reply;
-    return want;
+    *reply = space;
+    return (model_report){got.number, got.standing, got.taken, got.sent};
 }

@@ -10,6 +10,7 @@ typedef struct {
     uint32_t kind;
     model_memories contents;
     uint32_t record[WORDS];
+    bool fresh; /* the record is a fresh one */
 } setting;
 
 typedef struct {
@@ -17,12 +18,14 @@ typedef struct {
     model_memories library, model;
     uint32_t *record; /* the library's */
     uint32_t model_record[WORDS];
+    bool fresh;         /* it began at a fresh record */
     bool at_end;        /* where on its shelf memory is lent */
     bool null_if_empty; /* what is empty is lent as NULL */
 } desk;
 
 void desk_set(trial *t, desk *d, const setting *s);
-/* Shows so many bytes to both sessions and gives room for so many. The reply stays where it is until the next call. */
+/* Shows so many bytes to both sessions and gives room for so many. Report and reply are the library's; the reply stays where it
+   is until the next call. */
 model_report desk_call(trial *t, desk *d, const uint8_t *input, size_t shown, size_t room, const uint8_t **reply);
 
 /* Memory for contents, as long as any length that is tried. One set for each use. */

@@ -33,11 +33,12 @@ static void version_figures(trial *t)
     order_figure(t, "1..2", "1.9", 61, 0);
 }
 
+/* Its code is 123456789, and its CRC-32 the one that is published for that. */
 static void image_with_id(uint8_t *bytes, uint8_t id)
 {
-    memcpy(bytes, (const uint8_t[]){0x70, 0x51, 0xAA, id, 1}, 5);
-    bytes[IMAGE_HEADER] = 0x5A;
-    put_little(bytes + 8, 4, model_crc32(bytes + IMAGE_HEADER, 1));
+    memcpy(bytes, (const uint8_t[]){0x70, 0x51, 0xAA, id, 9}, 5);
+    memcpy(bytes + IMAGE_HEADER, "123456789", 9);
+    put_little(bytes + 8, 4, 0xCBF43926);
 }
 
 static void slot_figure(trial *t, uint8_t first, uint8_t second, uint32_t slot)
@@ -86,8 +87,16 @@ static void exchange_figure(trial *t, desk *d, const exchange *x)
     model_report got = desk_call(t, d, (const uint8_t *)x->host, x->host_length, 64, &reply);
     bool same = got.taken == x->host_length && got.sent == x->device_length && memcmp(reply, x->device, x->device_length) == 0;
     if (!same || d->record[WORD_PHASE] != x->phase || d->record[WORD_LENGTH] != x->length || d->record[WORD_REASON] != x->reason)
-        differ(t, "figure: exchange of kind %u that ends in phase %u", x->kind, x->phase);
+        differ(t, "figure: exchange of kind %u with %zu host bytes", x->kind, x->host_length);
 }
+
+/* 123456789 written to RAM and read back; the host's CRC-16 of it is B1 29. */
+#define WRITE_AND_READ \
+    "\x01\x01\x0D\x00" "\x00\x00\xFC\x07" "123456789" "\x06" \
+    "\x01\x02\x06\x00" "\x00\x00\xFC\x07" "\x09\x00" "\x06" "\x06" "\xB1\x29"
+#define WRITTEN_AND_READ \
+    "\x02\x01\x00\x03" "\x06" "\x06" "\xC4\xC4" \
+    "\x02\x01\x00\x03" "\x06" "\x06" "\x67\xE1" "\x09\x00" "123456789" "\x06" "\x02\x01\x00\x03"
 
 static void exchange_figures(trial *t)
 {
@@ -98,6 +107,7 @@ static void exchange_figures(trial *t)
         {KIND_E, 131072, 0, 0, BYTES("\x01\xFF\xFF"), BYTES("\x02\x06"), 7, 65535, 0},
         {KIND_UARTBOOT, 1, 4096, 64, BYTES("\x01\x04\x07\x00"), BYTES("\x02\x01\x00\x03\x15\x02\x01\x00\x03"), 1, 0, 12},
         {KIND_UARTBOOT, 1, 4096, 64, BYTES("\x01\x0B\x00\x00\x06"), BYTES("\x02\x01\x00\x03\x06\x07\x00" "0.0.0.3"), 15, 7, 0},
+        {KIND_UARTBOOT, 9, 4096, 64, BYTES(WRITE_AND_READ), BYTES(WRITTEN_AND_READ), 1, 0, 0},
     };
     desk d;
     for (size_t i = 0; i < sizeof figures / sizeof *figures; i++)

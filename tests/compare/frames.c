@@ -48,11 +48,13 @@ static void round_trip(trial *t, uint32_t kind, const uint8_t *frame, size_t fra
     same_number(t, "round trip's standing", r.standing, RUNS);
     same_number(t, "round trip's taken bytes", at, frame_length);
     same_bytes(t, "code in RAM", ram, code, length);
+    if ((ram_length > length && ram[length] != 0xEE) || !shelf_intact(&ram_shelf))
+        differ(t, "a byte behind the code in RAM was written");
 }
 
 void frame_case(trial *t)
 {
-    static uint8_t want_out[LONGEST_FRAME];
+    static uint8_t want_out[LONGEST_FRAME], kept[LONGEST_CODE];
     if (!code_shelf.first) {
         shelf_build(&code_shelf, LONGEST_CODE);
         shelf_build(&out_shelf, LONGEST_FRAME);
@@ -62,17 +64,19 @@ void frame_case(trial *t)
     size_t length = code_length(t), frame = length + (length > 65535 && kind == KIND_E ? 6 : 4), room = room_for(t, frame);
     bool at_end = !once_in(t->c, 3);
     uint8_t *code = shelf_lend(&code_shelf, length, at_end), *out = shelf_lend(&out_shelf, room, at_end);
-    fill(t->c, code, length);
+    fill(t->c, kept, length);
+    memcpy(code, kept, length);
     fill(t->c, want_out, room);
     memcpy(out, want_out, room);
     und_framed got = kind == KIND_P ? und_frame_p(length ? code : NULL, length, room ? out : NULL, room)
                                     : und_frame_e(length ? code : NULL, length, room ? out : NULL, room);
-    model_framed want = model_frame(kind, code, length, want_out, room);
+    model_framed want = model_frame(kind, kept, length, want_out, room);
     tell(t, "frame: kind %u, code %zu, room %zu: number %u, length %zu\n", kind, length, room, want.number, want.length);
-    seen(SEEN_NUMBER, want.number);
+    seen(SEEN_FRAME_NUMBER, want.number);
     same_number(t, "frame's number", got.number, want.number);
     same_number(t, "frame's length", got.length, want.length);
     same_bytes(t, "frame", out, want_out, room);
+    same_bytes(t, "lent code", code, kept, length);
     if (!shelf_intact(&code_shelf) || !shelf_intact(&out_shelf))
         differ(t, "a byte beside code or frame was written");
     if (want.number == 0 && !differs(t))

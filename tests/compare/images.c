@@ -60,26 +60,31 @@ static size_t selector_flash_length(trial *t)
 void select_case(trial *t)
 {
     static shelf held;
+    static uint8_t flash[MOST_FLASH + SECTOR];
     if (!held.first)
-        shelf_build(&held, MOST_FLASH + SECTOR);
+        shelf_build(&held, sizeof flash);
     size_t length = selector_flash_length(t);
-    uint8_t *flash = shelf_lend(&held, length, !once_in(t->c, 3));
+    uint8_t *lent = shelf_lend(&held, length, !once_in(t->c, 3));
     fill(t->c, flash, length);
     uint32_t header = pick(t->c, SECTOR);
     if (length >= SECTOR) {
-        uint64_t offsets[2] = {place_image(t, flash, length), place_image(t, flash, length)};
+        uint64_t offsets[2];
+        offsets[0] = place_image(t, flash, length);
+        offsets[1] = place_image(t, flash, length);
         if (once_in(t->c, 12))
             offsets[1] = offsets[0];
         header = place_product_header(t, flash, length, offsets);
         tell(t, "flash %zu, product header at %u, images at %llu and %llu\n", length, header,
              (unsigned long long)offsets[0], (unsigned long long)offsets[1]);
     }
-    und_selected got = und_select(length ? flash : NULL, length, header);
+    memcpy(lent, flash, length);
+    und_selected got = und_select(length ? lent : NULL, length, header);
     model_selected want = model_select(flash, length, header);
     tell(t, "select: number %u, slot %u\n", want.number, want.slot);
-    seen(SEEN_NUMBER, want.number);
+    seen(SEEN_SELECT_NUMBER, want.number);
     same_number(t, "selector's number", got.number, want.number);
     same_number(t, "slot", got.slot, want.slot);
+    same_bytes(t, "lent flash", lent, flash, length);
     if (!shelf_intact(&held))
         differ(t, "a byte beside the flash was written");
     t->calls++;
@@ -104,29 +109,33 @@ static size_t make_file(trial *t, uint8_t *file)
 void offer_case(trial *t)
 {
     static shelf shelves[2];
-    static uint8_t content[MOST_FILE];
+    static uint8_t content[2][MOST_FILE];
     uint8_t *files[2];
     size_t lengths[2];
     bool at_end = !once_in(t->c, 3);
     for (int i = 0; i < 2; i++) {
         if (!shelves[i].first)
             shelf_build(&shelves[i], MOST_FILE);
-        if (i == 0 || !once_in(t->c, 8))
-            lengths[i] = make_file(t, content);
-        else
+        if (i == 0 || !once_in(t->c, 8)) {
+            lengths[i] = make_file(t, content[i]);
+        } else {
             lengths[i] = lengths[0];
+            memcpy(content[1], content[0], lengths[0]);
+        }
         files[i] = shelf_lend(&shelves[i], lengths[i], at_end);
-        memcpy(files[i], content, lengths[i]);
+        memcpy(files[i], content[i], lengths[i]);
         tell_bytes(t, "file", files[i], lengths[i]);
     }
     und_offered got = und_offer(files[0], lengths[0], files[1], lengths[1]);
-    model_offered want = model_offer(files[0], lengths[0], files[1], lengths[1]);
+    model_offered want = model_offer(content[0], lengths[0], content[1], lengths[1]);
     tell(t, "offer: number %u, file %u, place %zu, size %zu\n", want.number, want.file, want.place, want.size);
-    seen(SEEN_NUMBER, want.number);
+    seen(SEEN_OFFER_NUMBER, want.number);
     same_number(t, "offer's number", got.number, want.number);
     same_number(t, "offered file", got.file, want.file);
     same_number(t, "place of the code", got.place, want.place);
     same_number(t, "size of the code", got.size, want.size);
+    same_bytes(t, "lent installed file", files[0], content[0], lengths[0]);
+    same_bytes(t, "lent candidate", files[1], content[1], lengths[1]);
     if (!shelf_intact(&shelves[0]) || !shelf_intact(&shelves[1]))
         differ(t, "a byte beside a file was written");
     t->calls++;

@@ -32,30 +32,42 @@ static uint64_t cases_of[KINDS], all_calls;
 
 /* A case that touches memory that was not lent, or doesn't end, is left here. */
 static sigjmp_buf left;
-static volatile sig_atomic_t running;
-static volatile uint64_t serial;
+static volatile sig_atomic_t running, left_by;
+static volatile uint64_t serial, current_seed;
 
 static void on_fault(int signal)
 {
-    if (running)
-        siglongjmp(left, signal);
-    _Exit(3);
+    if (!running)
+        _Exit(3);
+    left_by = signal;
+    siglongjmp(left, 1);
 }
 
 static void on_tick(int signal)
 {
     static uint64_t last;
     if (running && serial == last)
-        siglongjmp(left, signal);
+        on_fault(signal);
     last = serial;
+}
+
+/* A sanitizer ends the program; its report is followed by the seed. */
+__attribute__((weak)) void __sanitizer_set_death_callback(void (*callback)(void));
+
+static void on_death(void)
+{
+    fprintf(stderr, "in the case of seed %" PRIu64 "; again: tests/run seed %" PRIu64 "\n", current_seed, current_seed);
 }
 
 static void watch(void)
 {
     struct sigaction fault = {.sa_handler = on_fault, .sa_flags = SA_NODEFER}, tick = {.sa_handler = on_tick};
     struct itimerval every = {{WATCH_SECONDS, 0}, {WATCH_SECONDS, 0}};
-    sigaction(SIGSEGV, &fault, NULL);
-    sigaction(SIGBUS, &fault, NULL);
+    static const int faults[] = {SIGSEGV, SIGBUS, SIGILL, SIGFPE};
+    for (size_t i = 0; i < sizeof faults / sizeof *faults; i++)
+        sigaction(faults[i], &fault, NULL);
+    if (__sanitizer_set_death_callback)
+        __sanitizer_set_death_callback(on_death);
     sigaction(SIGALRM, &tick, NULL);
     setitimer(ITIMER_REAL, &every, NULL);
 }
@@ -88,12 +100,11 @@ static bool run_case(choices *c, bool telling)
     static trial t;
     t = (trial){.c = c, .telling = telling};
     serial++;
-    int signal = sigsetjmp(left, 1);
-    if (signal == 0) {
+    if (sigsetjmp(left, 1) == 0) {
         running = 1;
         run_kind(&t);
     } else {
-        differ(&t, signal == SIGALRM ? "a call does not end" : "memory that was not lent was touched");
+        differ(&t, left_by == SIGALRM ? "a call does not end" : "memory that was not lent was touched");
     }
     running = 0;
     all_calls += t.calls;
@@ -109,6 +120,7 @@ static bool still_differs(choices *c)
 static bool run_seed(uint64_t seed, bool telling)
 {
     static choices c;
+    current_seed = seed;
     choices_from_seed(&c, seed);
     if (!run_case(&c, telling))
         return true;
@@ -132,6 +144,8 @@ static int run_many(uint64_t first, uint64_t count, double seconds)
 {
     double start = seconds_now();
     uint64_t done = 0;
+    printf("cases from seed %" PRIu64 " on\n", first);
+    fflush(stdout);
     while (done < count && (seconds == 0 || seconds_now() - start < seconds)) {
         if (!run_seed(first + done, false))
             return 1;

@@ -18,12 +18,17 @@ typedef struct {
 } wanted;
 
 static const wanted all[SEENS] = {
-    [SEEN_NUMBER] = {"number", {0, 1, 2, 3, 4, 41, 42, 43, 51, 52, 53, 61, 62, 63, -1}},
+    [SEEN_ORDER_NUMBER] = {"number of an order", {0, 61, -1}},
+    [SEEN_SELECT_NUMBER] = {"number of the selector", {0, 3, 51, 52, 53, -1}},
+    [SEEN_OFFER_NUMBER] = {"number of an offer", {0, 61, 62, 63, -1}},
+    [SEEN_FRAME_NUMBER] = {"number of a frame", {0, 41, 42, 43, -1}},
+    [SEEN_ROM_NUMBER] = {"number of a receiver", {0, 2, 4, -1}},
+    [SEEN_UARTBOOT_NUMBER] = {"number of uartboot", {0, 1, 2, 3, 4, -1}},
     [SEEN_REASON] = {"reason", {0, 11, 12, 13, 14, 15, 16, 17, 18, 19, 20, 31, 32, 33, 34, -1}},
     [SEEN_ROM_P] = {"phase of kind P", {0, 1, 2, 3, 6, 7, 8, 9, 10, 11, -1}},
     [SEEN_ROM_E] = {"phase of kind E", {0, 1, 2, 3, 4, 5, 6, 7, 8, 9, 10, 11, -1}},
     [SEEN_UARTBOOT] = {"phase of uartboot", {0, 1, 2, 3, 4, 5, 6, 7, 8, 9, 10, 11, 12, 13, 14, 15, 16, 17, 18, 19, -1}},
-    [SEEN_STANDING] = {"standing", {0, 1, 2, 3, -1}},
+    [SEEN_STANDING] = {"standing", {1, 2, 3, -1}},
     [SEEN_OPCODE] = {"opcode accepted", {1, 2, 3, 4, 5, 8, 11, 12, 18, -1}},
 };
 

@@ -5,7 +5,13 @@
 #include <stdbool.h>
 #include <stdint.h>
 
-typedef enum { SEEN_NUMBER, SEEN_REASON, SEEN_ROM_P, SEEN_ROM_E, SEEN_UARTBOOT, SEEN_STANDING, SEEN_OPCODE, SEENS } seen_what;
+typedef enum {
+    /* numbers, by what gave them */
+    SEEN_ORDER_NUMBER, SEEN_SELECT_NUMBER, SEEN_OFFER_NUMBER, SEEN_FRAME_NUMBER, SEEN_ROM_NUMBER, SEEN_UARTBOOT_NUMBER,
+    /* what sessions reached from a fresh record */
+    SEEN_STANDING, SEEN_REASON, SEEN_ROM_P, SEEN_ROM_E, SEEN_UARTBOOT, SEEN_OPCODE,
+    SEENS
+} seen_what;
 
 void seen(seen_what what, uint32_t number);
 /* Prints what is missing. */

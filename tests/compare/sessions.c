@@ -27,8 +27,12 @@ static size_t work_length(trial *t)
 
 static model_memories first_memories(trial *t, uint32_t kind)
 {
-    bool all = kind == KIND_UARTBOOT;
-    model_memories m = contents_of(FIRST_CONTENTS, ram_length(t), all ? flash_length(t) : 0, all ? work_length(t) : 0);
+    size_t ram = ram_length(t), flash = 0, work = 0;
+    if (kind == KIND_UARTBOOT) {
+        flash = flash_length(t);
+        work = work_length(t);
+    }
+    model_memories m = contents_of(FIRST_CONTENTS, ram, flash, work);
     fill(t->c, m.ram, m.ram_length);
     fill(t->c, m.flash, m.flash_length);
     fill(t->c, m.work, m.work_length);
@@ -49,6 +53,13 @@ static void fresh(trial *t, bool uartboot, uint32_t kind, uint32_t record[WORDS]
         differ(t, "fresh record of kind %u", kind);
 }
 
+static void set_stream(visit *v, const stream *s)
+{
+    static const uint8_t nothing[1];
+    v->stream = s->length ? s->bytes : nothing;
+    v->length = s->length;
+}
+
 /* Makes a stream by following the session from a visit's start. */
 static void make_stream(trial *t, visit *v, stream *s, uint32_t rounds)
 {
@@ -61,14 +72,13 @@ static void make_stream(trial *t, visit *v, stream *s, uint32_t rounds)
     else
         play_rom(t, s, record, &lead, rounds);
     spoil(t, s);
-    v->stream = s->bytes;
-    v->length = s->length;
+    set_stream(v, s);
 }
 
 static void stream_case(trial *t, uint32_t kind)
 {
     stream s = {0};
-    visit v = {.start.kind = kind, .fresh = true};
+    visit v = {.start.kind = kind, .start.fresh = true};
     v.start.contents = first_memories(t, kind);
     fresh(t, kind == KIND_UARTBOOT, kind, v.start.record);
     v.alters = once_in(t->c, 5);
@@ -143,8 +153,7 @@ static void record_case(trial *t, uint32_t kind, uint32_t last_phase)
     } else {
         for (uint32_t left = pick(t->c, 20); left > 0; left--)
             stream_add(&s, (uint8_t)pick(t->c, 256));
-        v.stream = s.bytes;
-        v.length = s.length;
+        set_stream(&v, &s);
     }
     visit_run(t, &v);
     free(s.bytes);
@@ -191,8 +200,8 @@ void length_case(trial *t)
     fill(t->c, m->work, m->work_length);
     fill(t->c, input, sizeof input);
     model_fresh(kind, v.start.record);
-    v.fresh = !once_in(t->c, 3);
-    if (!v.fresh)
+    v.start.fresh = !once_in(t->c, 3);
+    if (!v.start.fresh)
         v.start.record[WORD_PHASE] = pick(t->c, 24);
     visit_run(t, &v);
 }

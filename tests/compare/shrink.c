@@ -51,7 +51,7 @@ static bool lower(search *s)
 {
     bool better = false;
     for (size_t at = 0; at < s->count && seconds_now() < s->until; at++)
-        for (int how = 0; how < 2; how++) {
+        for (int how = 0; how < 2 && seconds_now() < s->until; how++) {
             uint32_t *trial = malloc((s->count + 1) * sizeof *trial);
             memcpy(trial, s->best, s->count * sizeof *trial);
             uint32_t old = trial[at];

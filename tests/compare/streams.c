@@ -104,10 +104,10 @@ static uint32_t plan_count(trial *t, const model_memories *m, uint64_t memory_le
     return (uint32_t)near_edges(t->c, edges, sizeof edges / sizeof *edges);
 }
 
-/* A place in a memory, mostly one that it has. */
-static uint64_t plan_place(trial *t, uint64_t memory_length)
+/* A place in a memory whose first byte has an address, mostly a place that it has; addresses end at 2^32 - 1. */
+static uint64_t plan_place(trial *t, uint64_t memory_length, uint64_t first_address)
 {
-    uint64_t edges[] = {0, memory_length, SECTOR, 2 * SECTOR, 0xFFFFFFFF, 0x7FFFFFFF};
+    uint64_t edges[] = {0, memory_length, SECTOR, 2 * SECTOR, 0xFFFFFFFF - first_address, 0x7FFFFFFF};
     if (!once_in(t->c, 3))
         return pick(t->c, memory_length < 64 || once_in(t->c, 3) ? (uint32_t)memory_length : 64);
     return near_edges(t->c, edges, sizeof edges / sizeof *edges);
@@ -133,8 +133,10 @@ static uint32_t put_numbers(planned *p, const uint64_t *numbers, const int *widt
 
 static void plan_payload(trial *t, planned *p, const model_memories *m)
 {
-    uint64_t ram = plan_place(t, m->ram_length), flash = plan_place(t, m->flash_length), address = RAM_BASE + ram;
+    uint64_t ram = plan_place(t, m->ram_length, RAM_BASE), address = RAM_BASE + ram;
+    uint64_t flash = plan_place(t, m->flash_length, 0);
     uint32_t data = 0;
+    memset(p->payload, 0, sizeof p->payload);
     uint64_t verify = once_in(t->c, 8) ? pick(t->c, 256) : pick(t->c, 2);
     bool in_flash = p->opcode == OP_ERASE || p->opcode == OP_READ_QSPI;
     uint64_t count = in_flash ? plan_count(t, m, m->flash_length, flash) : plan_count(t, m, m->ram_length, ram);
@@ -197,7 +199,8 @@ static void play_on(lead *g)
     uint16_t crc = model_crc16(g->memories->work, length <= g->memories->work_length ? length : 0);
     switch (g->record[WORD_PHASE]) {
     case 6:
-        plan_command(t, &p, g->memories);
+        p.opcode = (uint8_t)g->record[WORD_OPCODE];
+        plan_payload(t, &p, g->memories);
         play_all(g, p.payload + place, length - place);
         break;
     case 10:
@@ -227,8 +230,10 @@ void spoil(trial *t, stream *s)
 {
     if (once_in(t->c, 4) && s->length > 0)
         s->length = pick(t->c, (uint32_t)s->length);
-    if (once_in(t->c, 10) && s->length > 0)
-        s->bytes[pick(t->c, (uint32_t)s->length)] = (uint8_t)pick(t->c, 256);
+    if (once_in(t->c, 10) && s->length > 0) {
+        uint8_t *byte = &s->bytes[pick(t->c, (uint32_t)s->length)];
+        *byte = (uint8_t)pick(t->c, 256);
+    }
     while (once_in(t->c, 4))
         stream_add(s, (uint8_t)pick(t->c, 256));
 }

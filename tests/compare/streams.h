@@ -16,13 +16,14 @@ void play_uartboot(trial *t, stream *s, uint32_t record[WORDS], const model_memo
 /* Damage that no session asked for: an end in the middle, a wrong byte, more bytes behind. */
 void spoil(trial *t, stream *s);
 
-/* A command's payload, mostly one that the memories admit. Gives its length. */
+/* A command with its payload; bytes that were not planned are 0. */
 typedef struct {
     uint8_t opcode;
     uint32_t length;
     uint8_t payload[MOST_WORK + 64];
 } planned;
 
+/* Mostly one that the memories admit. */
 void plan_command(trial *t, planned *p, const model_memories *memories);
 void stream_add(stream *s, uint8_t byte);
 

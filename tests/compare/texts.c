@@ -24,10 +24,11 @@ void make_version(trial *t, uint8_t *field, size_t room)
     }
     memset(field, 0, room);
     memcpy(field, text, length < room ? length : room);
+    uint32_t place = pick(t->c, VERSION_FIELD);
     if (once_in(t->c, 8))
-        field[pick(t->c, VERSION_FIELD)] = (uint8_t)PICK_OF(t->c, odd);
-    if (once_in(t->c, 16))
-        field[pick(t->c, VERSION_FIELD)] = (uint8_t)pick(t->c, 256);
+        field[place] = (uint8_t)PICK_OF(t->c, odd);
+    else if (once_in(t->c, 16))
+        field[place] = (uint8_t)pick(t->c, 256);
 }
 
 void make_image(trial *t, uint8_t *bytes, uint32_t code)
@@ -47,13 +48,14 @@ void make_image(trial *t, uint8_t *bytes, uint32_t code)
 void damage_image(trial *t, uint8_t *bytes, size_t room)
 {
     uint64_t sizes[] = {0, room - IMAGE_HEADER, MOST_CODE, 0xFFFFFFFF, room, 0x80000000};
-    switch (pick(t->c, 8)) {
-    case 0: bytes[pick(t->c, 2)] = (uint8_t)pick(t->c, 256); break;
+    uint32_t what = pick(t->c, 8), where = pick(t->c, 31);
+    switch (what) {
+    case 0: bytes[where % 2] = (uint8_t)pick(t->c, 256); break;
     case 1: bytes[2] = (uint8_t)pick(t->c, 256); break;
     case 2: bytes[32] = (uint8_t)pick(t->c, 256); break;
-    case 3: bytes[8 + pick(t->c, 4)] ^= (uint8_t)(1u << pick(t->c, 8)); break;
+    case 3: bytes[8 + where % 4] ^= (uint8_t)(1u << pick(t->c, 8)); break;
     case 4: bytes[IMAGE_HEADER] ^= (uint8_t)pick(t->c, 256); break;
-    case 5: bytes[33 + pick(t->c, 31)] = (uint8_t)pick(t->c, 256); break;
+    case 5: bytes[33 + where] = (uint8_t)pick(t->c, 256); break;
     default: {
         /* Another size, mostly with the CRC that it needs. */
         uint64_t size = near_edges(t->c, sizes, sizeof sizes / sizeof *sizes) & 0xFFFFFFFF;

@@ -8,39 +8,57 @@
 
 #include <string.h>
 
-static void same_rank(trial *t, const uint8_t *field, size_t length)
+/* The library's lent field, and the same bytes for the model. */
+typedef struct {
+    shelf held;
+    uint8_t *lent;
+    uint8_t kept[VERSION_FIELD + 8];
+    size_t length;
+} field;
+
+static void same_rank(trial *t, const field *f)
 {
-    und_ranked got = und_rank(field, length);
-    model_ranked want = model_rank(field, length);
+    und_ranked got = und_rank(f->length == 0 ? NULL : f->lent, f->length);
+    model_ranked want = model_rank(f->kept, f->length);
     same_number(t, "rank's number", got.number, want.number);
     for (int k = 0; k < 4; k++)
         same_number(t, "rank", got.rank[k], want.rank[k]);
 }
 
+static void lend_field(trial *t, field *f, const uint8_t *text, bool at_end)
+{
+    if (!f->held.first)
+        shelf_build(&f->held, sizeof f->kept);
+    f->length = once_in(t->c, 24) ? pick(t->c, sizeof f->kept) : VERSION_FIELD;
+    f->lent = shelf_lend(&f->held, f->length, at_end);
+    memcpy(f->kept, text, sizeof f->kept);
+    memcpy(f->lent, text, f->length);
+    tell_bytes(t, "field", f->lent, f->length);
+}
+
 void version_case(trial *t)
 {
-    static shelf shelves[2];
-    uint8_t *fields[2];
-    size_t lengths[2];
-    uint8_t text[VERSION_FIELD + 8];
+    static field fields[2];
+    field *a = &fields[0], *b = &fields[1];
+    uint8_t text[sizeof a->kept];
     bool at_end = once_in(t->c, 2);
-    for (int i = 0; i < 2; i++) {
-        if (!shelves[i].first)
-            shelf_build(&shelves[i], sizeof text);
-        if (i == 0 || !once_in(t->c, 6))
-            make_version(t, text, sizeof text);
-        lengths[i] = once_in(t->c, 24) ? pick(t->c, sizeof text) : VERSION_FIELD;
-        fields[i] = shelf_lend(&shelves[i], lengths[i], at_end);
-        memcpy(fields[i], text, lengths[i]);
-        tell_bytes(t, "field", fields[i], lengths[i]);
-        same_rank(t, lengths[i] == 0 ? NULL : fields[i], lengths[i]);
-    }
-    und_ordered got = und_order(fields[0], lengths[0], fields[1], lengths[1]);
-    model_ordered want = model_order(fields[0], lengths[0], fields[1], lengths[1]);
-    seen(SEEN_NUMBER, want.number);
+    make_version(t, text, sizeof text);
+    lend_field(t, a, text, at_end);
+    if (!once_in(t->c, 6))
+        make_version(t, text, sizeof text);
+    lend_field(t, b, text, at_end);
+
+    same_rank(t, a);
+    same_rank(t, b);
+    und_ordered got = und_order(a->lent, a->length, b->lent, b->length);
+    model_ordered want = model_order(a->kept, a->length, b->kept, b->length);
+    seen(SEEN_ORDER_NUMBER, want.number);
     same_number(t, "order's number", got.number, want.number);
     same_number(t, "order", (uint64_t)got.order, (uint64_t)want.order);
-    if (!shelf_intact(&shelves[0]) || !shelf_intact(&shelves[1]))
-        differ(t, "a byte beside a field was written");
+    for (field *f = fields; f < fields + 2; f++) {
+        same_bytes(t, "lent field", f->lent, f->kept, f->length);
+        if (!shelf_intact(&f->held))
+            differ(t, "a byte beside a field was written");
+    }
     t->calls += 3;
 }

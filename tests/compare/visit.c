@@ -101,7 +101,7 @@ static void run_cut(trial *t, const visit *v, desk *d, const cut *how, ending *e
         e->taken += got.taken;
         over = got.number != 0 || got.standing == RUNS || (got.standing == WANTS_BYTE && e->taken == v->length);
     }
-    memcpy(e->record, d->model_record, sizeof e->record);
+    memcpy(e->record, d->record, sizeof e->record);
     e->runs = v->start.kind == KIND_UARTBOOT ? e->record[WORD_PHASE] == 19 : e->record[WORD_PHASE] == 11;
     e->reason = e->record[WORD_REASON];
     e->has_record = true;
@@ -144,13 +144,12 @@ static bool lengths_accepted(const visit *v)
 static cut next_cut(trial *t, uint32_t round)
 {
     static const uint32_t sizes[] = {1, 2, 3, 5, 9, 64, 300, 5000};
-    if (round == 0)
-        return (cut){"whole", 0, AMPLE, false};
-    if (round == 1)
-        return (cut){"byte by byte", 1, 1, false};
-    if (round == 2)
-        return (cut){"one byte of room", 0, 1, false};
-    return (cut){"at random", PICK_OF(t->c, sizes), PICK_OF(t->c, sizes), true};
+    static const cut fixed[] = {
+        {"whole", 0, AMPLE, false}, {"byte by byte", 1, 1, false}, {"one byte of room", 0, 1, false}};
+    if (round < 2 || (round == 3 && once_in(t->c, 2)))
+        return fixed[round < 2 ? round : 2];
+    size_t piece = PICK_OF(t->c, sizes), room = PICK_OF(t->c, sizes);
+    return (cut){"at random", piece, room, true};
 }
 
 void visit_run(trial *t, const visit *v)
@@ -160,12 +159,12 @@ void visit_run(trial *t, const visit *v)
     tell_bytes(t, "stream", v->stream, v->length);
     model_memories expected = contents_of(EXPECTED_CONTENTS, 0, 0, 0);
     ending want = {0};
-    bool known = v->fresh && !v->alters && lengths_accepted(v);
+    bool known = v->start.fresh && !v->alters && lengths_accepted(v);
     if (known)
         expect(v, &want, &expected);
-    uint32_t rounds = 2 + pick(t->c, 5), first = pick(t->c, 3);
+    uint32_t rounds = 3 + pick(t->c, 3);
     for (uint32_t round = 0; round < rounds && !differs(t); round++) {
-        cut how = next_cut(t, first + round);
+        cut how = next_cut(t, round);
         desk d;
         ending got = {0};
         desk_set(t, &d, &v->start);
@@ -181,7 +180,7 @@ void visit_run(trial *t, const visit *v)
             free(want.replies);
             want = got;
             got.replies = NULL;
-            copy_contents(&expected, &d.model);
+            copy_contents(&expected, &d.library);
             known = true;
         }
         free(got.replies);

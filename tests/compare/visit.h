@@ -8,7 +8,6 @@ typedef struct {
     setting start;
     const uint8_t *stream;
     size_t length;
-    bool fresh;  /* it starts at a fresh record */
     bool alters; /* memories are written between calls, so that cuts may end differently */
 } visit;
 
