@@ -16,11 +16,15 @@ ARCHIVE := $(BUILD)/libundalisho.a
 lib: $(ARCHIVE) $(BUILD)/undalisho.pc
 
 # The check knows what is up to date, and proves crates side by side. staticlib does neither, so it comes second, and only
-# where the check has proved something anew.
-target/rlib/capi.rlib: force
-	rt check capi
+# where the check has proved something anew, or capi itself has changed.
+USED := $(shell sed -n 's/^capi: //p' crates.txt)
+RLIBS := $(USED:%=target/rlib/%.rlib)
+CAPI := $(shell find crates/capi -type f)
 
-target/staticlib/libcapi.a: target/rlib/capi.rlib
+$(RLIBS) &: force
+	rt check $(USED)
+
+target/staticlib/libcapi.a: $(RLIBS) $(CAPI)
 	rt staticlib capi
 
 # A file whose content stays is not touched, so that nothing is made anew from it.
