@@ -72,7 +72,7 @@ void frame_case(trial *t)
                                     : und_frame_e(length ? code : NULL, length, room ? out : NULL, room);
     model_framed want = model_frame(kind, kept, length, want_out, room);
     tell(t, "frame: kind %u, code %zu, room %zu: number %u, length %zu\n", kind, length, room, want.number, want.length);
-    seen(SEEN_FRAME_NUMBER, want.number);
+    seen(kind == KIND_P ? SEEN_FRAME_P_NUMBER : SEEN_FRAME_E_NUMBER, want.number);
     same_number(t, "frame's number", got.number, want.number);
     same_number(t, "frame's length", got.length, want.length);
     same_bytes(t, "frame", out, want_out, room);

@@ -94,6 +94,13 @@ static void run_kind(trial *t)
     kinds[kind].run(t);
 }
 
+static const char *fault_name(int signal)
+{
+    if (signal == SIGALRM)
+        return "a call does not end";
+    return signal == SIGSEGV || signal == SIGBUS ? "memory that was not lent was touched" : "an instruction failed";
+}
+
 /* Runs the case of a list of choices. Gives whether it differs. */
 static bool run_case(choices *c, bool telling)
 {
@@ -104,7 +111,7 @@ static bool run_case(choices *c, bool telling)
         running = 1;
         run_kind(&t);
     } else {
-        differ(&t, left_by == SIGALRM ? "a call does not end" : "memory that was not lent was touched");
+        differ(&t, "%s", fault_name(left_by));
     }
     running = 0;
     all_calls += t.calls;

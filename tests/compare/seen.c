@@ -18,10 +18,12 @@ typedef struct {
 } wanted;
 
 static const wanted all[SEENS] = {
+    [SEEN_RANK_NUMBER] = {"number of a rank", {0, 61, -1}},
     [SEEN_ORDER_NUMBER] = {"number of an order", {0, 61, -1}},
     [SEEN_SELECT_NUMBER] = {"number of the selector", {0, 3, 51, 52, 53, -1}},
     [SEEN_OFFER_NUMBER] = {"number of an offer", {0, 61, 62, 63, -1}},
-    [SEEN_FRAME_NUMBER] = {"number of a frame", {0, 41, 42, 43, -1}},
+    [SEEN_FRAME_P_NUMBER] = {"number of a frame for P", {0, 41, 42, 43, -1}},
+    [SEEN_FRAME_E_NUMBER] = {"number of a frame for E", {0, 41, 42, 43, -1}},
     [SEEN_ROM_NUMBER] = {"number of a receiver", {0, 2, 4, -1}},
     [SEEN_UARTBOOT_NUMBER] = {"number of uartboot", {0, 1, 2, 3, 4, -1}},
     [SEEN_REASON] = {"reason", {0, 11, 12, 13, 14, 15, 16, 17, 18, 19, 20, 31, 32, 33, 34, -1}},

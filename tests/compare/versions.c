@@ -20,6 +20,7 @@ static void same_rank(trial *t, const field *f)
 {
     und_ranked got = und_rank(f->length == 0 ? NULL : f->lent, f->length);
     model_ranked want = model_rank(f->kept, f->length);
+    seen(SEEN_RANK_NUMBER, want.number);
     same_number(t, "rank's number", got.number, want.number);
     for (int k = 0; k < 4; k++)
         same_number(t, "rank", got.rank[k], want.rank[k]);
