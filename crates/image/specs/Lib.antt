@@ -1,2 +1,3 @@
 pub mod Header
+pub mod Rule
 pub mod Valid

@@ -1,25 +1,19 @@
 // Images: a header of 64 bytes and the code behind it, in flash or in a file.
+pub mod rule;
+
 ghost use mathlib.Core.Path.{_≡_};
 ghost use Prim.Native.Nat.{_+_, _≤_};
 ghost use lib.ListN.{length};
 ghost use Rattle.image.specs.Header.{isMarked, versionAt, headerLength};
 ghost use Rattle.image.specs.Valid.{isValid, imageAt};
-use crc::crc32::crc_of;
+use crate::rule::Rule;
+use crate::rule::first_broken;
 use wire::number::number32_at;
 use wire::range::Place;
 use wire::range::place_in;
 
 // How many bytes an image header has; the code begins there.
 pub const HEADER: usize = 64;
-
-// The mark of an image header is 70 and this byte.
-const IMAGE_MARK: u8 = 0x51;
-
-// The flag of a valid image.
-const VALID_FLAG: u8 = 0xAA;
-
-// The largest size of the code.
-const LARGEST: usize = 131_072;
 
 // What stands at an offset of a memory.
 pub enum Image {
@@ -44,27 +38,16 @@ fn is_valid(memory: &[u8], offset: usize) -> bool
     requires { ⌜ offset + headerLength ≤ length (now memory) ⌝ }
     ensures { λ r. ⌜ r ≡ isValid (now (memory .entry)) offset ⌝ }
 {
-    if !is_marked(memory, offset, IMAGE_MARK) {
-        return false;
+    match first_broken(memory, offset) {
+        Rule::Nothing => true,
+        Rule::Header => false,
+        Rule::Mark => false,
+        Rule::Flag => false,
+        Rule::Size => false,
+        Rule::Reach => false,
+        Rule::Encrypted => false,
+        Rule::Crc => false,
     }
-    if memory[offset + 2] != VALID_FLAG {
-        return false;
-    }
-    let size = number32_at(memory, offset + 4) as usize;
-    if size == 0 {
-        return false;
-    }
-    if LARGEST < size {
-        return false;
-    }
-    let code = offset + HEADER;
-    if memory.len() - code < size {
-        return false;
-    }
-    if memory[offset + 32] != 0 {
-        return false;
-    }
-    crc_of(&memory[code..code + size]) == number32_at(memory, offset + 8)
 }
 
 // The image at an offset of a memory; of a file, at 0.

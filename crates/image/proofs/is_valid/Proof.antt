@@ -1,151 +1,80 @@
--- `image::is_valid`: each return by the tests that led there.
+-- `image::is_valid`: by the first rule that is broken.
 -- Assumes nothing.
-use Prim.Native.Nat.{ℕ, _+_, _-_, _<_, _≤_}
-use mathlib.Core.Path.{_≡_, sym, ap, _∙_}
-use mathlib.Core.Bool.{and-false}
-use native.Mathlib.Omega.{arith}
-use lib.Dec.{eqb}
-use lib.ListN.{length, take, drop}
+use mathlib.Core.Path.{sym, _∙_}
 use borrow.Author.Needs.{needs}
-use borrow.Author.Tests.{le-leb, lt-leb, eq-eqb, ne-eqb, not-true, not-false}
-use Rattle.crc.specs.Rule.{rule32}
-use Rattle.crc.specs.Crc.{crcOf}
-use Rattle.image.specs.Header.{sizeAt, crcAt, headerLength}
-use Rattle.image.specs.Valid.{largestSize, isValid}
+use Rattle.image.proofs.Rules.{valid-exactly}
 use Rattle.image.proofs.is_valid.Statement.{statement}
 use Rattle.image.proofs.is_valid.Tie as tie
 
-is-marked-requires : tie.Need-is-marked-requires
-is-marked-requires c κs = search needs
+first-broken-requires : tie.Need-first-broken-requires
+first-broken-requires c κs = search needs
+
+enum-told : tie.Need-enum-told
+enum-told c = search needs
+
+enum-told-2 : tie.Need-enum-told-2
+enum-told-2 c = search needs
+
+enum-told-3 : tie.Need-enum-told-3
+enum-told-3 c = search needs
+
+enum-told-4 : tie.Need-enum-told-4
+enum-told-4 c = search needs
+
+enum-told-5 : tie.Need-enum-told-5
+enum-told-5 c = search needs
+
+enum-told-6 : tie.Need-enum-told-6
+enum-told-6 c = search needs
+
+enum-told-7 : tie.Need-enum-told-7
+enum-told-7 c = search needs
+
+enum-told-8 : tie.Need-enum-told-8
+enum-told-8 c = search needs
 
 returns : tie.Need-returns
-unfolding isValid
-returns c = simp (sym (c .before .is-marked .ensures) ∙ not-true _ (c .if1 .taken))
-
-add-if2 : tie.Need-add-if2
-add-if2 c = search needs
-
-shared-slice-read-if2 : tie.Need-shared-slice-read-if2
-shared-slice-read-if2 c = search needs
+returns c = simp (valid-exactly, sym (c .before .before .first-broken .ensures) ∙ c .enum-told .given .1)
 
 returns-2 : tie.Need-returns-2
-unfolding isValid
-returns-2 c = simp (ne-eqb _ _ (c .if2 .taken), and-false)
-
-add-number32-at : tie.Need-add-number32-at
-add-number32-at c = search needs
-
-number32-at-requires : tie.Need-number32-at-requires
-number32-at-requires c κs = search needs
-
-cast-size : tie.Need-cast-size
-cast-size c = search needs
+returns-2 c = simp (valid-exactly, sym (c .before .before .first-broken .ensures) ∙ c .enum-told2 .given .1)
 
 returns-3 : tie.Need-returns-3
-unfolding isValid
-returns-3 c =
-    let size = c .before in
-    let a = size .before .before .before .before .before .before .args in
-    let h : sizeAt (a .memory .now) (a .offset) < 1 = omega (arith, size .number32-at .ensures, c .if3 .taken) in
-    simp (lt-leb _ _ h, and-false)
+returns-3 c = simp (valid-exactly, sym (c .before .before .first-broken .ensures) ∙ c .enum-told3 .given .1)
 
 returns-4 : tie.Need-returns-4
-unfolding isValid
-returns-4 c =
-    let size = c .before .before in
-    let a = size .before .before .before .before .before .before .args in
-    let h : largestSize < sizeAt (a .memory .now) (a .offset) = omega (arith, size .number32-at .ensures, c .if4 .taken) in
-    simp (lt-leb _ _ h, and-false)
-
-add-code : tie.Need-add-code
-add-code c = search needs
-
-sub-if5 : tie.Need-sub-if5
-sub-if5 c = search needs
+returns-4 c = simp (valid-exactly, sym (c .before .before .first-broken .ensures) ∙ c .enum-told4 .given .1)
 
 returns-5 : tie.Need-returns-5
-unfolding isValid
-returns-5 c =
-    let size = c .before .before .before in
-    let a = size .before .before .before .before .before .before .args in
-    let h : length (a .memory .now) < a .offset + headerLength + sizeAt (a .memory .now) (a .offset) = omega (arith, size .number32-at .ensures, c .if5 .taken) in
-    simp (lt-leb _ _ h, and-false)
-
-add-if6 : tie.Need-add-if6
-add-if6 c = search needs
-
-shared-slice-read-if6 : tie.Need-shared-slice-read-if6
-shared-slice-read-if6 c = search needs
+returns-5 c = simp (valid-exactly, sym (c .before .before .first-broken .ensures) ∙ c .enum-told5 .given .1)
 
 returns-6 : tie.Need-returns-6
-unfolding isValid
-returns-6 c = simp (ne-eqb _ _ (c .if6 .taken), and-false)
-
-add-crc-of : tie.Need-add-crc-of
-add-crc-of c = search needs
-
-sub-crc-of : tie.Need-sub-crc-of
-sub-crc-of c = search needs
-
-part-crc-of-start : tie.Need-part-crc-of-start
-part-crc-of-start c = search needs
-
-part-crc-of-end : tie.Need-part-crc-of-end
-part-crc-of-end c = search needs
-
-crc-of-requires : tie.Need-crc-of-requires
-crc-of-requires c κs = search needs
-
-add-number32-at-2 : tie.Need-add-number32-at-2
-add-number32-at-2 c = search needs
-
-number32-at-requires-2 : tie.Need-number32-at-requires-2
-number32-at-requires-2 c κs = search needs
+returns-6 c = simp (valid-exactly, sym (c .before .before .first-broken .ensures) ∙ c .enum-told6 .given .1)
 
 returns-7 : tie.Need-returns-7
-unfolding isValid
-returns-7 c =
-    let encrypted = c .before .before .before in
-    let fits = encrypted .before .before in
-    let size = fits .before .before .before in
-    let flag = size .before in
-    let marked = flag .before .before .before in
-    let a = marked .before .before .args in
-    let s = size .number32-at .ensures in
-    let low : 1 ≤ sizeAt (a .memory .now) (a .offset) = omega (arith, s, fits .before .before .if3 .left) in
-    let high : sizeAt (a .memory .now) (a .offset) ≤ largestSize = omega (arith, s, fits .before .if4 .left) in
-    let inside : a .offset + headerLength + sizeAt (a .memory .now) (a .offset) ≤ length (a .memory .now) = omega (arith, s, fits .if5 .left) in
-    let whole : a .offset + headerLength + size .number32-at .result - (a .offset + headerLength) ≡ sizeAt (a .memory .now) (a .offset) = omega (arith, s) in
-    let mark = sym (marked .is-marked .ensures) ∙ not-false _ (flag .before .before .if1 .left) in
-    simp (mark, eq-eqb _ _ (flag .if2 .left), le-leb _ _ low, le-leb _ _ high, le-leb _ _ inside, eq-eqb _ _ (encrypted .if6 .left))
-    (rw (c .before .crc-of .ensures, c .number32-at2 .ensures)
-    (ap (λ (k : ℕ). eqb (crcOf rule32 (take k (drop (a .offset + headerLength) (a .memory .now)))) (crcAt (a .memory .now) (a .offset))) whole))
+returns-7 c = simp (valid-exactly, sym (c .before .before .first-broken .ensures) ∙ c .enum-told7 .given .1)
+
+returns-8 : tie.Need-returns-8
+returns-8 c = simp (valid-exactly, sym (c .before .before .first-broken .ensures) ∙ c .enum-told8 .given .1)
 
 pub is-valid-spec : {M : Type 1} → statement M
 is-valid-spec =
     tie.close
     (tie.spec
-    is-marked-requires
+    first-broken-requires
+    enum-told
+    enum-told-2
+    enum-told-3
+    enum-told-4
+    enum-told-5
+    enum-told-6
+    enum-told-7
+    enum-told-8
     returns
-    add-if2
-    shared-slice-read-if2
     returns-2
-    add-number32-at
-    number32-at-requires
-    cast-size
     returns-3
     returns-4
-    add-code
-    sub-if5
     returns-5
-    add-if6
-    shared-slice-read-if6
     returns-6
-    add-crc-of
-    sub-crc-of
-    part-crc-of-start
-    part-crc-of-end
-    crc-of-requires
-    add-number32-at-2
-    number32-at-requires-2
-    returns-7)
+    returns-7
+    returns-8)

@@ -1,0 +1,51 @@
+-- The first rule that an image breaks (01, "Dual image": the rules of a valid image, in the order that stands there; before them, that
+-- the header lies in the memory).
+-- Assumes nothing.
+use Prim.Native.Nat.{ℕ, _+_}
+use mathlib.Core.List.{List}
+use mathlib.Core.Bool.{Bool, true, false, cond, not}
+use lib.Dec.{eqb, leb}
+use lib.ListN.{length}
+use Rattle.crc.specs.Rule.{rule32}
+use Rattle.crc.specs.Crc.{crcOf}
+use Rattle.image.specs.declared.rule.Rule.{Rule}
+use Rattle.image.specs.declared.rule.Rule.the-variants.{Nothing, Header, Mark, Flag, Size, Reach, Encrypted, Crc}
+use Rattle.image.specs.Header.{isMarked, flagAt, sizeAt, crcAt, encryptedAt, headerLength, codeAt}
+use Rattle.image.specs.Valid.{validFlag, largestSize}
+
+-- the number of a rule; 0 where none is broken
+abbrev pub ruleNumber : Rule → ℕ
+ruleNumber Nothing = 0
+ruleNumber Header = 1
+ruleNumber Mark = 2
+ruleNumber Flag = 3
+ruleNumber Size = 4
+ruleNumber Reach = 5
+ruleNumber Encrypted = 6
+ruleNumber Crc = 7
+
+abbrev pub isNothing : Rule → Bool
+isNothing Nothing = true
+isNothing Header = false
+isNothing Mark = false
+isNothing Flag = false
+isNothing Size = false
+isNothing Reach = false
+isNothing Encrypted = false
+isNothing Crc = false
+
+-- the header's 64 bytes lie wholly in the memory
+abbrev pub headerInside : (memory : List ℕ) (offset : ℕ) → Bool
+headerInside memory offset = leb (offset + headerLength) (length memory)
+
+unfoldable pub firstBroken : (memory : List ℕ) (offset : ℕ) → Rule
+firstBroken memory offset =
+    cond (not (headerInside memory offset)) Header
+    (cond (not (isMarked memory offset 0x51)) Mark
+    (cond (not (eqb (flagAt memory offset) validFlag)) Flag
+    (cond (not (leb 1 (sizeAt memory offset))) Size
+    (cond (not (leb (sizeAt memory offset) largestSize)) Size
+    (cond (not (leb (offset + headerLength + sizeAt memory offset) (length memory))) Reach
+    (cond (not (eqb (encryptedAt memory offset) 0)) Encrypted
+    (cond (not (eqb (crcOf rule32 (codeAt memory offset)) (crcAt memory offset))) Crc
+    Nothing)))))))
