@@ -1,3 +1,4 @@
 pub mod Id
 pub mod Slot
+pub mod Product
 pub mod Refusal

@@ -1,28 +1,14 @@
 // The flash slot that will start: the product header names two images, and the newer valid one starts.
+pub mod product;
+
 ghost use mathlib.Core.Path.{_≡_};
 ghost use mathlib.Core.Bool.{cond};
 ghost use Rattle.slot.specs.Id.{isNewer};
 ghost use Rattle.slot.specs.Slot.{refused, starts, chosen, selectOf};
+use crate::product::Product;
+use crate::product::product_at;
 use image::Image;
 use image::image_at;
-use image::is_marked;
-use wire::length::BAD_FLASH;
-use wire::length::is_flash_length;
-use wire::number::number32_at;
-use wire::range::Place;
-use wire::unit::FlashOffset;
-
-// How many bytes the product header has.
-const PRODUCT: usize = 12;
-
-// The mark of a product header is 70 and this byte.
-const PRODUCT_MARK: u8 = 0x52;
-
-// The number given where the product header does not lie wholly in the flash.
-pub const NO_HEADER: u32 = 51;
-
-// The number given where its mark is wrong.
-pub const WRONG_MARK: u32 = 52;
 
 // The number given where neither image is valid.
 pub const NO_IMAGE: u32 = 53;
@@ -90,17 +76,11 @@ fn choose(first: Image, second: Image) -> Selected
 pub fn select(flash: &[u8], offset: u32) -> Selected
     ensures { λ r. ⌜ r ≡ selectOf (now (flash .entry)) offset ⌝ }
 {
-    if !is_flash_length(flash.len()) {
-        return refused(BAD_FLASH);
+    match product_at(flash, offset) {
+        Product::Refused(number) => refused(number),
+        Product::Images(first, second) => choose(
+            image_at(flash, first as usize),
+            image_at(flash, second as usize),
+        ),
     }
-    let Place::Inside(_) = FlashOffset(offset).place(PRODUCT, flash.len()) else {
-        return refused(NO_HEADER);
-    };
-    let start = offset as usize;
-    if !is_marked(flash, start, PRODUCT_MARK) {
-        return refused(WRONG_MARK);
-    }
-    let first = image_at(flash, number32_at(flash, start + 4) as usize);
-    let second = image_at(flash, number32_at(flash, start + 8) as usize);
-    choose(first, second)
 }
