@@ -1,0 +1,48 @@
+-- What a command's payload says, in numbers (01, "uartboot session": the table's second column; reasons 11 and 12).
+-- Assumes nothing.
+use Prim.Native.Nat.{ℕ}
+use mathlib.Core.List.{List}
+use mathlib.Core.Bool.{cond, not}
+use lib.Dec.{ltb}
+use lib.ListN.{length}
+use Rattle.command.specs.declared.opcode.Lookup.{Lookup}
+use Rattle.command.specs.declared.opcode.Lookup.the-variants.{Known, Unknown}
+use Rattle.command.specs.declared.payload.Command.{Command}
+use Rattle.command.specs.declared.payload.Command.the-variants.{Write, Read, Copy, Erase, Run, ReadQspi, Version, ChipErase, DirectWrite}
+use Rattle.command.specs.Opcode.{opcodeOf, hasLength}
+use Rattle.command.specs.Payload.{commandOf}
+use Rattle.uartboot_flow.specs.Flow.{unknownOpcode, badLength}
+use Rattle.inspect.specs.declared.payload.CommandRead.{CommandRead}
+
+-- the longest payload whose length a header's two bytes can say
+abbrev pub longestPayload : ℕ
+longestPayload = 65535
+
+abbrev pub refused : (number : ℕ) → CommandRead
+refused number = record { number = number; address = 0; offset = 0; count = 0; verify = 0 }
+
+abbrev pub says : (address offset count verify : ℕ) → CommandRead
+says address offset count verify = record { number = 0; address = address; offset = offset; count = count; verify = verify }
+
+-- a command's RAM address, its flash offset, how many bytes it stores, reads, copies or erases, and its verify byte; 0 for one that
+-- it doesn't have
+abbrev pub numbersOf : Command → CommandRead
+numbersOf (Write address n) = says (address .0) 0 n 0
+numbersOf (Read address n) = says (address .0) 0 n 0
+numbersOf (Copy address n offset) = says (address .0) (offset .0) n 0
+numbersOf (Erase offset n) = says 0 (offset .0) n 0
+numbersOf (Run address) = says (address .0) 0 0 0
+numbersOf (ReadQspi offset n) = says 0 (offset .0) n 0
+numbersOf Version = says 0 0 0 0
+numbersOf ChipErase = says 0 0 0 0
+numbersOf (DirectWrite verify offset n) = says 0 (offset .0) n verify
+
+abbrev pub readBy : Lookup → (payload : List ℕ) → CommandRead
+readBy Unknown payload = refused unknownOpcode
+readBy (Known opcode) payload =
+    cond (ltb longestPayload (length payload)) (refused badLength)
+    (cond (not (hasLength opcode (length payload))) (refused badLength)
+    (numbersOf (commandOf opcode (length payload) payload)))
+
+unfoldable pub readCommand : (opcode : ℕ) (payload : List ℕ) → CommandRead
+readCommand opcode payload = readBy (opcodeOf opcode) payload

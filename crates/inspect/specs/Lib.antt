@@ -1,0 +1,4 @@
+pub mod Image
+pub mod Product
+pub mod Command
+pub mod Laws
