@@ -15,21 +15,30 @@ ARCHIVE := $(BUILD)/libundalisho.a
 
 lib: $(ARCHIVE) $(BUILD)/undalisho.pc
 
-# The check knows what is up to date, and proves crates side by side. staticlib does neither, so it comes second, and only
-# where the check has proved something anew, or capi itself has changed.
-USED := $(shell sed -n 's/^capi: //p' crates.txt)
-RLIBS := $(USED:%=target/rlib/%.rlib)
-CAPI := $(shell find crates/capi -type f)
+# The crates whose functions C calls: capi, and those whose names begin with capi_. Each gives an archive with one object.
+CAPI := $(shell sed -nE 's/^(capi(_\w+)?):.*/\1/p' crates.txt)
+PARTS := $(CAPI:%=target/staticlib/lib%.a)
 
-$(RLIBS) &: force
+used_by = $(shell sed -n 's/^$(1)://p' crates.txt)
+rlibs_of = $(addsuffix .rlib,$(addprefix target/rlib/,$(1)))
+USED := $(sort $(foreach crate,$(CAPI),$(call used_by,$(crate))))
+
+# The check knows what is up to date, and proves crates side by side. staticlib does neither, so it comes second, and only
+# where the check has proved anew what the crate uses, or the crate itself has changed.
+$(call rlibs_of,$(USED)) &: force
 	rt check $(USED)
 
-target/staticlib/libcapi.a: $(RLIBS) $(CAPI)
-	rt staticlib capi
+.SECONDEXPANSION:
+$(PARTS): target/staticlib/lib%.a: $$(call rlibs_of,$$(call used_by,$$*)) $$(shell find crates/$$* -type f)
+	rt staticlib $*
 
-# A file whose content stays is not touched, so that nothing is made anew from it.
-$(BUILD)/libundalisho.a: target/staticlib/libcapi.a | $(BUILD)
-	@cmp -s $< $@ || cp $< $@
+# The objects share no name: all symbols of one but its functions for C are local. A file whose content stays is not touched,
+# so that nothing is made anew from it.
+$(BUILD)/libundalisho.a: $(PARTS) crates.txt | $(BUILD)
+	@rm -rf $(BUILD)/parts && mkdir $(BUILD)/parts
+	@for part in $(PARTS); do (cd $(BUILD)/parts && ar x $(CURDIR)/$$part) || exit 1; done
+	@cd $(BUILD)/parts && ar rcsD libundalisho.a $(CAPI:%=%.o)
+	@cmp -s $(BUILD)/parts/libundalisho.a $@ || cp $(BUILD)/parts/libundalisho.a $@
 
 $(BUILD)/undalisho.pc: undalisho.pc.in force | $(BUILD)
 	@sed -e 's|@VERSION@|$(VERSION)|' -e 's|@PREFIX@|$(PREFIX)|' -e 's|@INCLUDEDIR@|$(INCLUDEDIR)|' \
