@@ -1,8 +1,8 @@
 /* Undalisho: the serial boot line of Dialog chips.
  *
  * It plays a chip's end of the line (the boot ROM's receiver, and the loader uartboot), makes the frame that a host
- * sends to the receiver, names the flash slot that will start, and orders versions. What a function gives and writes
- * follows from its arguments alone.
+ * sends to the receiver, names the flash slot that will start, orders versions, and says what headers and commands hold.
+ * What a function gives and writes follows from its arguments alone.
  *
  * For x86-64 Linux. To compile and link:
  *
@@ -39,6 +39,14 @@ enum {
     UND_FLASH_MAX = 4194304, /* and at most this */
     UND_WORK_MIN = 64,       /* work buffer: this many bytes */
     UND_WORK_MAX = 65535     /* to this many */
+};
+
+/* The line's bytes. */
+enum {
+    UND_LINE_START = 0x01,    /* begins a header */
+    UND_LINE_GREETING = 0x02, /* the receiver's greeting, and the first byte of uartboot's */
+    UND_LINE_ACK = 0x06,      /* accepts */
+    UND_LINE_NAK = 0x15       /* refuses */
 };
 
 /* ---- Versions ----
@@ -134,6 +142,49 @@ typedef struct {
  * Writes:  nothing that is lent
  */
 und_offered und_offer(const uint8_t *installed, size_t installed_len, const uint8_t *candidate, size_t candidate_len);
+
+/* The rules of an image, in order of test. */
+enum {
+    UND_RULE_HEADER = 1,    /* the header's 64 bytes lie wholly in the memory */
+    UND_RULE_MARK = 2,      /* it begins with 70 51 */
+    UND_RULE_FLAG = 3,      /* byte 2 is AA */
+    UND_RULE_SIZE = 4,      /* the size is 1 to 131072 */
+    UND_RULE_REACH = 5,     /* header and code lie wholly in the memory */
+    UND_RULE_ENCRYPTED = 6, /* byte 32 is 00 */
+    UND_RULE_CRC = 7        /* the CRC-32 of the code is the header's */
+};
+
+typedef struct {
+    uint32_t rule;        /* the first rule that the image breaks; 0: it is valid */
+    uint32_t id;
+    uint32_t size;        /* of the code, as the header has it */
+    size_t version_place; /* where the version field begins in the memory */
+    size_t code_place;    /* where the code begins, or would */
+} und_image;
+
+/* What an image header says, valid or not, and the first rule that the image breaks. The memory is a flash or, with
+ * offset 0, a file; it may have any length. With rule UND_RULE_HEADER all other fields are 0. With a rule from
+ * UND_RULE_MARK to UND_RULE_REACH the code need not lie in the memory; the version field does.
+ *
+ * Writes:  nothing that is lent
+ */
+und_image und_read_image(const uint8_t *memory, size_t memory_len, uint32_t offset);
+
+typedef struct {
+    uint32_t number;
+    uint32_t first;  /* flash offset of image 1; 0 when refused */
+    uint32_t second; /* flash offset of image 2; 0 when refused */
+} und_product;
+
+/* What a product header says. Where it is refused, und_select is refused with the same number.
+ *
+ * Number:  0
+ *          3   flash_len is not a length that flash may have
+ *          51  the product header does not lie wholly in the flash
+ *          52  it does not begin with 70 52
+ * Writes:  nothing that is lent
+ */
+und_product und_read_product(const uint8_t *flash, size_t flash_len, uint32_t header_offset);
 
 /* ---- Sessions ----
  *
@@ -286,6 +337,24 @@ und_report und_rom_call(uint32_t record[8], const uint8_t *input, size_t input_l
  *     18       sends 15
  *     19       runs code                                             held (the address)
  */
+
+typedef struct {
+    uint32_t number;
+    uint32_t address; /* in RAM */
+    uint32_t offset;  /* in flash */
+    uint32_t count;   /* how many bytes it stores, reads, copies or erases */
+    uint32_t verify;  /* the verify byte of a Direct write */
+} und_command;
+
+/* What a command's payload says, each number 0 where the command has none. Only opcode and length are tested: a session
+ * may still refuse the command, with reason 13 or a later one.
+ *
+ * Number:  0
+ *          11  the opcode is unknown
+ *          12  payload_len is not a length that the opcode has, or is above 65535
+ * Writes:  nothing that is lent
+ */
+und_command und_read_command(uint32_t opcode, const uint8_t *payload, size_t payload_len);
 
 /* Writes the record of a new uartboot session, all eight words. */
 void und_uartboot_fresh(uint32_t record[8]);
