@@ -110,6 +110,37 @@ static void files(void)
     HOLD(und_offer(second, 65, first, 65).file == UND_FILE_INSTALLED);
 }
 
+static uint32_t rule_with(size_t byte, uint8_t value, size_t length)
+{
+    uint8_t image[65];
+
+    make_image(image, '1');
+    image[byte] = value;
+    return und_read_image(image, length, 0).rule;
+}
+
+static void rules(void)
+{
+    HOLD(rule_with(1, 0x51, 65) == 0);
+    HOLD(rule_with(1, 0x51, 63) == UND_RULE_HEADER);
+    HOLD(rule_with(1, 0x52, 65) == UND_RULE_MARK);
+    HOLD(rule_with(2, 0x55, 65) == UND_RULE_FLAG);
+    HOLD(rule_with(4, 0x00, 65) == UND_RULE_SIZE);
+    HOLD(rule_with(1, 0x51, 64) == UND_RULE_REACH);
+    HOLD(rule_with(32, 0x01, 65) == UND_RULE_ENCRYPTED);
+    HOLD(rule_with(64, 0x01, 65) == UND_RULE_CRC);
+}
+
+static void line_bytes(void)
+{
+    const uint8_t start[] = {UND_LINE_START, 0x01, 0x00}, other[] = {UND_LINE_START + 1};
+
+    to_receiver(UND_KIND_P, start, 3, sizeof reply);
+    HOLD(reply[0] == UND_LINE_GREETING && reply[1] == UND_LINE_ACK && record[UND_RECORD_PHASE] == 7);
+    to_receiver(UND_KIND_P, other, 1, sizeof reply);
+    HOLD(reply[0] == UND_LINE_GREETING && reply[1] == UND_LINE_NAK && record[UND_RECORD_REASON] == 31);
+}
+
 static void null_where_empty(void)
 {
     und_rom_fresh(UND_KIND_P, record);
@@ -117,6 +148,9 @@ static void null_where_empty(void)
     HOLD(und_order(NULL, 0, NULL, 0).number == 61);
     HOLD(und_select(NULL, 0, 0).number == 3);
     HOLD(und_offer(NULL, 0, NULL, 0).number == 62);
+    HOLD(und_read_image(NULL, 0, 0).rule == UND_RULE_HEADER);
+    HOLD(und_read_product(NULL, 0, 0).number == 3);
+    HOLD(und_read_command(0x0B, NULL, 0).number == 0);
     HOLD(und_rom_call(record, NULL, 0, NULL, 0, ram, 1).standing == UND_WANTS_ROOM);
     HOLD(und_rom_call(record, NULL, 0, NULL, 0, NULL, 0).number == 2);
     HOLD(und_uartboot_call(record, NULL, 0, NULL, 0, NULL, 0, NULL, 0, NULL, 0).number == 1);
@@ -131,6 +165,8 @@ int main(void)
     words();
     first_address();
     files();
+    rules();
+    line_bytes();
     null_where_empty();
     return wrong;
 }

@@ -20,6 +20,15 @@ static int images(void)
     return und_select(flash, sizeof flash, 0).number == 52 && und_offer(flash, 64, flash + 64, 64).number == 62;
 }
 
+static int readings(void)
+{
+    static const uint8_t run[] = {0x00, 0x00, 0xFC, 0x07};
+
+    return und_read_image(flash, sizeof flash, 0).rule == UND_RULE_MARK &&
+           und_read_product(flash, sizeof flash, UND_FLASH_SECTOR).number == 51 &&
+           und_read_command(0x05, run, sizeof run).address == UND_RAM_FIRST;
+}
+
 static int runs(uint32_t kind, und_framed framed)
 {
     und_report r;
@@ -49,7 +58,7 @@ static int uartboot(void)
 
 int main(void)
 {
-    if (versions() && images() && receivers() && uartboot())
+    if (versions() && images() && readings() && receivers() && uartboot())
         return 0;
     fprintf(stderr, "installed: the library answers otherwise\n");
     return 1;

@@ -17,10 +17,17 @@ TYPEDEFS = {
     "Offered": "und_offered",
     "Called": "und_report",
     "Framed": "und_framed",
+    "ImageRead": "und_image",
+    "ProductRead": "und_product",
+    "CommandRead": "und_command",
 }
 
-# The header's name for a Rattle parameter, where it has another.
-PARAMETERS = {"words": "record", "offset": "header_offset"}
+# The header's name for a Rattle parameter of one function, or of all, where it has another.
+PARAMETERS = {
+    "und_select offset": "header_offset",
+    "und_read_product offset": "header_offset",
+    "words": "record",
+}
 
 # The C name of each Rattle number.
 NUMBERS = {"u8": "uint8_t", "u32": "uint32_t", "i32": "int32_t", "usize": "size_t"}
@@ -114,10 +121,10 @@ def struct_of(name, source):
     return Struct(name, TYPEDEFS[name], [field_of(field, source) for field in body.split(",") if field.strip()])
 
 
-def parameters_of(text, source):
-    """The C parameters of a Rattle parameter: a slice has two."""
+def parameters_of(text, function, source):
+    """The C parameters of a function's Rattle parameter: a slice has two."""
     name, kind = (" ".join(part.split()) for part in text.split(":", 1))
-    name = PARAMETERS.get(name, name)
+    name = PARAMETERS.get(f"{function} {name}") or PARAMETERS.get(name, name)
     if kind in NUMBERS:
         return [Parameter(NUMBERS[kind], name)]
     found = re.fullmatch(r"&(mut )?(\[.+\])", kind)
@@ -137,18 +144,25 @@ def result_of(kind, source):
     raise Unknown(f"{source.path}: the result type '{kind}' is not known")
 
 
-def boundary_of(root):
-    """The functions that C calls, and the structs that they give back."""
-    source = Source(Path(root) / "crates", "capi")
+def exported_of(source):
+    """The functions of one crate that C calls, and the structs that they give back."""
     found = re.findall(EXPORTED, source.text, re.DOTALL)
     if not found or {len(found)} != {source.text.count('extern "C"'), source.text.count("no_mangle")}:
         raise Unknown(f'{source.path}: not every extern "C" has the form \'#[no_mangle] pub extern "C" fn NAME(..)\'')
     functions = []
     for name, parameters, kind in found:
-        given = [c for text in parameters.split(",") if text.strip() for c in parameters_of(text, source)]
+        given = [c for text in parameters.split(",") if text.strip() for c in parameters_of(text, name, source)]
         functions.append(Function(name, result_of(kind or None, source), given))
     kinds = dict.fromkeys(kind for _, _, kind in found if kind in TYPEDEFS)
     return functions, [struct_of(kind, source) for kind in kinds]
+
+
+def boundary_of(root):
+    """The same of all crates that C calls: capi, and those whose names begin with capi_."""
+    crates = Path(root) / "crates"
+    names = sorted(path.name for path in crates.iterdir() if path.name == "capi" or path.name.startswith("capi_"))
+    parts = [exported_of(Source(crates, name)) for name in names]
+    return [f for functions, _ in parts for f in functions], [s for _, structs in parts for s in structs]
 
 
 def names_of(functions, structs):

@@ -15,14 +15,15 @@ from agree import Differs, agree
 
 HEADER, README = "include/undalisho.h", "README.md"
 CAPI, FRAME, OFFER = "crates/capi/src/lib.rt", "crates/frame/src/lib.rt", "crates/offer/src/lib.rt"
+CAPI_INSPECT, IMAGE_HEADER = "crates/capi_inspect/src/lib.rt", "crates/inspect/src/image_header.rt"
 RANK, ORDER = "crates/version/src/rank.rt", "crates/version/src/order.rt"
 
 # By file: what is wrong, what stands there once, what is put in its place, what the refusal says (a regular expression).
 EDITS = {
     HEADER: [
         # Parameters and results.
-        ("parameter of 64 bits", "uint32_t header_offset", "uint64_t header_offset", "conflicting types for 'und_select'"),
-        ("parameter with a sign", "uint32_t header_offset", "int32_t header_offset", "conflicting types for 'und_select'"),
+        ("parameter of 64 bits", "uint32_t offset);", "uint64_t offset);", "conflicting types for 'und_read_image'"),
+        ("parameter with a sign", "uint32_t offset);", "int32_t offset);", "conflicting types for 'und_read_image'"),
         ("length of 32 bits", "size_t field_len", "uint32_t field_len", "conflicting types for 'und_rank'"),
         ("length of 64 bits on any machine", "size_t field_len", "uint64_t field_len", "conflicting types for 'und_rank'"),
         ("parameters swapped", "uint32_t kind, uint32_t record[8]", "uint32_t record[8], uint32_t kind",
@@ -31,6 +32,8 @@ EDITS = {
          "conflicting types for 'und_rank'"),
         ("parameter left out", ", size_t field_len", "", "conflicting types for 'und_rank'"),
         ("parameter added", "size_t field_len", "size_t field_len, uint32_t more", "conflicting types for 'und_rank'"),
+        ("number behind the bytes", "uint32_t opcode, const uint8_t *payload, size_t payload_len",
+         "const uint8_t *payload, size_t payload_len, uint32_t opcode", "conflicting types for 'und_read_command'"),
         ("const dropped", "(const uint8_t *field", "(uint8_t *field", "conflicting types for 'und_rank'"),
         ("const added", "uint8_t *work, size_t", "const uint8_t *work, size_t", "conflicting types for 'und_uartboot_call'"),
         ("record that is only read", "uartboot_fresh(uint32_t record[8])", "uartboot_fresh(const uint32_t record[8])",
@@ -41,16 +44,32 @@ EDITS = {
          r"argument 1 of type 'uint32_t\[8\]'.* with mismatched bound"),
         ("other struct as result", "und_framed und_frame_e(", "und_ranked und_frame_e(",
          "conflicting types for 'und_frame_e'"),
+        ("result of another reading", "und_product und_read_product(", "und_selected und_read_product(",
+         "conflicting types for 'und_read_product'"),
         ("result where there is none", "void und_uartboot_fresh(", "uint32_t und_uartboot_fresh(",
          "conflicting types for 'und_uartboot_fresh'"),
         ("lent memories swapped", "uint8_t *installed, size_t installed_len, const uint8_t *candidate, size_t candidate_len",
          "uint8_t *candidate, size_t candidate_len, const uint8_t *installed, size_t installed_len",
          "the header gives und_offer the parameters"),
+        ("parameter renamed", "und_read_product(const uint8_t *flash, size_t flash_len, uint32_t header_offset",
+         "und_read_product(const uint8_t *flash, size_t flash_len, uint32_t offset",
+         "the header gives und_read_product the parameters"),
         # Structs.
         ("fields swapped", "uint32_t number;\n    uint32_t slot;", "uint32_t slot;\n    uint32_t number;",
          'static assertion failed: "und_selected.number: place"'),
         ("fields of two widths swapped", "uint32_t number;\n    size_t length;", "size_t length;\n    uint32_t number;",
          'static assertion failed: "und_framed.number: place"'),
+        ("places swapped", "size_t version_place; /* where the version field begins in the memory */\n    size_t code_place;",
+         "size_t code_place;\n    size_t version_place;", 'static assertion failed: "und_image.version_place: place"'),
+        ("image's id and size swapped", "uint32_t id;\n    uint32_t size; ", "uint32_t size;\n    uint32_t id; ",
+         'static assertion failed: "und_image.id: place"'),
+        ("images swapped", "uint32_t first;  /* flash offset of image 1; 0 when refused */\n    uint32_t second;",
+         "uint32_t second;\n    uint32_t first;", 'static assertion failed: "und_product.first: place"'),
+        ("address and offset swapped", "uint32_t address; /* in RAM */\n    uint32_t offset;",
+         "uint32_t offset;\n    uint32_t address;", 'static assertion failed: "und_command.address: place"'),
+        ("place of 32 bits", "size_t code_place;", "uint32_t code_place;",
+         'static assertion failed: "und_image.code_place: type"'),
+        ("byte of 8 bits", "uint32_t verify;", "uint8_t verify;", 'static assertion failed: "und_command.verify: type"'),
         ("field without its sign", " int32_t order;", " uint32_t order;",
          'static assertion failed: "und_ordered.order: type"'),
         ("field of 32 bits", "size_t length;", "uint32_t length;", 'static assertion failed: "und_framed.length: type"'),
@@ -70,6 +89,8 @@ EDITS = {
          "lacks .'function und_rank'."),
         ("function added", "/* ---- Versions", "void und_more(void);\n/* ---- Versions",
          "the header has .'function und_more'. that"),
+        ("reading left out", "und_image und_read_image(const uint8_t *memory, size_t memory_len, uint32_t offset);", "",
+         "lacks .'function und_read_image'."),
         ("function renamed", "und_ranked und_rank(", "und_ranked und_ranks(",
          "the header has .'function und_ranks'. that .*lacks .'function und_rank'."),
         ("variable added", "/* ---- Versions", "extern int und_state;\n/* ---- Versions",
@@ -79,6 +100,17 @@ EDITS = {
         ("wrong standing", "UND_WANTS_ROOM = 2", "UND_WANTS_ROOM = 3", "not so: .*UND_WANTS_ROOM"),
         ("wrong word", "UND_RECORD_PLACE = 4", "UND_RECORD_PLACE = 5", "not so: .*UND_RECORD_PLACE"),
         ("too few words", "UND_RECORD_WORDS = 8", "UND_RECORD_WORDS = 7", "not so: .*UND_RECORD_WORDS"),
+        ("wrong rule header", "UND_RULE_HEADER = 1", "UND_RULE_HEADER = 8", "not so: .*UND_RULE_HEADER"),
+        ("wrong rule mark", "UND_RULE_MARK = 2", "UND_RULE_MARK = 9", "not so: .*UND_RULE_MARK"),
+        ("wrong rule flag", "UND_RULE_FLAG = 3", "UND_RULE_FLAG = 10", "not so: .*UND_RULE_FLAG"),
+        ("wrong rule size", "UND_RULE_SIZE = 4", "UND_RULE_SIZE = 11", "not so: .*UND_RULE_SIZE"),
+        ("wrong rule reach", "UND_RULE_REACH = 5", "UND_RULE_REACH = 12", "not so: .*UND_RULE_REACH"),
+        ("wrong rule encrypted", "UND_RULE_ENCRYPTED = 6", "UND_RULE_ENCRYPTED = 13", "not so: .*UND_RULE_ENCRYPTED"),
+        ("wrong rule crc", "UND_RULE_CRC = 7", "UND_RULE_CRC = 14", "not so: .*UND_RULE_CRC"),
+        ("wrong start of a header", "UND_LINE_START = 0x01", "UND_LINE_START = 0x02", "not so: .*UND_LINE_ACK"),
+        ("wrong greeting", "UND_LINE_GREETING = 0x02", "UND_LINE_GREETING = 0x03", "not so: .*UND_LINE_GREETING"),
+        ("wrong ACK", "UND_LINE_ACK = 0x06", "UND_LINE_ACK = 0x07", "not so: .*UND_LINE_ACK"),
+        ("wrong NAK", "UND_LINE_NAK = 0x15", "UND_LINE_NAK = 0x14", "not so: .*UND_LINE_NAK"),
         ("wrong file", "UND_FILE_CANDIDATE = 2", "UND_FILE_CANDIDATE = 1", "not so: .*UND_FILE_CANDIDATE"),
         ("wrong length of RAM", "UND_RAM_MAX = 131072", "UND_RAM_MAX = 131071", "not so: .*UND_RAM_MAX"),
         ("wrong length of flash", "UND_FLASH_MAX = 4194304", "UND_FLASH_MAX = 4190208", "not so: .*UND_FLASH_MAX"),
@@ -93,6 +125,10 @@ EDITS = {
          '(?s)^README.md:.* static assertion failed: "und_selected.number: place"'),
         ("function left out", "void         und_uartboot_fresh(uint32_t record[8]);", "",
          "README.md .*lacks .'function und_uartboot_fresh'."),
+        ("fields of a reading swapped", "number, address, offset, count", "number, offset, address, count",
+         '(?s)^README.md:.* static assertion failed: "und_command.address: place"'),
+        ("reading left out", "und_product  und_read_product(const uint8_t *flash, size_t flash_len, uint32_t header_offset);",
+         "", "README.md .*lacks .'function und_read_product'."),
     ],
     CAPI: [
         ("lent memories swapped", "installed: &[u8], candidate: &[u8]", "candidate: &[u8], installed: &[u8]",
@@ -106,6 +142,14 @@ EDITS = {
          'not every extern "C" has the form'),
         ("function renamed", "fn und_rank(", "fn und_ranks(", "lacks .'function und_ranks'."),
     ],
+    CAPI_INSPECT: [
+        ("slice that is written", "payload: &[u8]", "payload: &mut [u8]", "conflicting types for 'und_read_command'"),
+        ("other struct as result", ") -> ImageRead", ") -> ProductRead", "conflicting types for 'und_read_image'"),
+        ("function renamed", "fn und_read_product(", "fn und_product_at(", "lacks .'function und_product_at'."),
+    ],
+    IMAGE_HEADER: [("fields swapped", "pub version_place: usize,\n    pub code_place: usize,",
+                    "pub code_place: usize,\n    pub version_place: usize,",
+                    'static assertion failed: "und_image.code_place: place"')],
     FRAME: [("unknown field", "pub length: usize,", "pub length: u128,", "'u128' is neither defined here in a form that")],
     OFFER: [("layout that is not C's", "#[repr(C)]\n", "", "'Offered' is neither defined here in a form that is known")],
     ORDER: [("fields swapped", "pub number: u32,\n    pub order: i32,", "pub order: i32,\n    pub number: u32,",
@@ -117,8 +161,9 @@ EDITS = {
 # What is wrong, what objcopy is told, what the refusal says.
 ARCHIVES = [
     ("function left out", "--localize-symbol=und_rank", "the archive .*lacks .'function und_rank'."),
+    ("reading left out", "--localize-symbol=und_read_image", "the archive .*lacks .'function und_read_image'."),
     ("function renamed", "--redefine-sym=und_rank=und_ranks", "the archive has .'function und_ranks'."),
-    ("variable added", "--add-symbol=und_state=.rodata.und_rom_call:0,global,object", "the archive has .'R und_state'."),
+    ("symbol added", "--add-symbol=und_state=0,global,object", "the archive has .'A und_state'"),
 ]
 
 
