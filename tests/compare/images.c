@@ -1,6 +1,7 @@
-/* Cases of the selector and of offers. */
+/* Cases of the selector and of offers, and what the headers say there. */
 #include "fill.h"
 #include "lend.h"
+#include "readings.h"
 #include "seen.h"
 #include "texts.h"
 #include "undalisho.h"
@@ -67,8 +68,8 @@ void select_case(trial *t)
     uint8_t *lent = shelf_lend(&held, length, !once_in(t->c, 3));
     fill(t->c, flash, length);
     uint32_t header = pick(t->c, SECTOR);
+    uint64_t offsets[2] = {header, 0};
     if (length >= SECTOR) {
-        uint64_t offsets[2];
         offsets[0] = place_image(t, flash, length);
         offsets[1] = place_image(t, flash, length);
         if (once_in(t->c, 12))
@@ -84,6 +85,9 @@ void select_case(trial *t)
     seen(SEEN_SELECT_NUMBER, want.number);
     same_number(t, "selector's number", got.number, want.number);
     same_number(t, "slot", got.slot, want.slot);
+    same_product(t, lent, flash, length, header);
+    same_image(t, lent, flash, length, (uint32_t)offsets[0]);
+    same_image(t, lent, flash, length, (uint32_t)offsets[1]);
     same_bytes(t, "lent flash", lent, flash, length);
     if (!shelf_intact(&held))
         differ(t, "a byte beside the flash was written");
@@ -134,6 +138,8 @@ void offer_case(trial *t)
     same_number(t, "offered file", got.file, want.file);
     same_number(t, "place of the code", got.place, want.place);
     same_number(t, "size of the code", got.size, want.size);
+    for (int i = 0; i < 2; i++)
+        same_image(t, files[i], content[i], lengths[i], 0);
     same_bytes(t, "lent installed file", files[0], content[0], lengths[0]);
     same_bytes(t, "lent candidate", files[1], content[1], lengths[1]);
     if (!shelf_intact(&shelves[0]) || !shelf_intact(&shelves[1]))

@@ -18,6 +18,7 @@ static const case_kind kinds[] = {
     {"version", 8, version_case},
     {"select", 6, select_case},
     {"offer", 4, offer_case},
+    {"command", 4, command_case},
     {"frame", 4, frame_case},
     {"ROM stream", 8, rom_stream_case},
     {"uartboot stream", 24, uartboot_stream_case},

@@ -21,6 +21,7 @@ typedef struct {
 void version_case(trial *t);
 void select_case(trial *t);
 void offer_case(trial *t);
+void command_case(trial *t);
 void frame_case(trial *t);
 void rom_stream_case(trial *t);
 void uartboot_stream_case(trial *t);

@@ -39,6 +39,24 @@ typedef struct {
 model_selected model_select(const uint8_t *flash, size_t length, uint32_t header);
 model_offered model_offer(const uint8_t *installed, size_t installed_length, const uint8_t *candidate, size_t candidate_length);
 
+/* What headers and commands say. */
+typedef struct {
+    uint32_t rule, id, size; /* the first rule that is broken, or 0 */
+    size_t version_place, code_place;
+} model_image;
+
+typedef struct {
+    uint32_t number, first, second;
+} model_product;
+
+typedef struct {
+    uint32_t number, address, offset, count, verify;
+} model_command;
+
+model_image model_read_image(const uint8_t *memory, size_t length, uint32_t offset);
+model_product model_read_product(const uint8_t *flash, size_t length, uint32_t header);
+model_command model_read_command(uint32_t opcode, const uint8_t *payload, size_t length);
+
 /* Sessions. A record is eight words. */
 enum { KIND_P, KIND_E, KIND_UARTBOOT };
 enum { WORD_KIND, WORD_PHASE, WORD_OPCODE, WORD_LENGTH, WORD_PLACE, WORD_HELD, WORD_REASON, WORD_SPARE, WORDS };
