@@ -15,6 +15,9 @@ use wire::range::place_in;
 // How many bytes an image header has; the code begins there.
 pub const HEADER: usize = 64;
 
+// The first byte of every mark.
+pub const MARK: u8 = 0x70;
+
 // What stands at an offset of a memory.
 pub enum Image {
     // A valid image: its id, and how many bytes of code it has.
@@ -27,7 +30,7 @@ pub fn is_marked(memory: &[u8], offset: usize, second: u8) -> bool
     requires { ⌜ offset + 2 ≤ length (now memory) ⌝ }
     ensures { λ r. ⌜ r ≡ isMarked (now (memory .entry)) offset second ⌝ }
 {
-    if memory[offset] != 0x70 {
+    if memory[offset] != MARK {
         return false;
     }
     memory[offset + 1] == second

@@ -10,13 +10,13 @@ use crc::crc32::crc_of;
 use wire::number::number32_at;
 
 // The mark of an image header is 70 and this byte.
-const IMAGE_MARK: u8 = 0x51;
+pub const IMAGE_MARK: u8 = 0x51;
 
 // The flag of a valid image.
-const VALID_FLAG: u8 = 0xAA;
+pub const VALID_FLAG: u8 = 0xAA;
 
 // The largest size of the code.
-const LARGEST: usize = 131_072;
+pub const LARGEST: usize = 131_072;
 
 // What is tested of an image, in this order.
 pub enum Rule {

@@ -9,10 +9,10 @@ use wire::range::Place;
 use wire::unit::FlashOffset;
 
 // How many bytes the product header has.
-const PRODUCT: usize = 12;
+pub const PRODUCT: usize = 12;
 
 // The mark of a product header is 70 and this byte.
-const PRODUCT_MARK: u8 = 0x52;
+pub const PRODUCT_MARK: u8 = 0x52;
 
 // The number given where the product header does not lie wholly in the flash.
 pub const NO_HEADER: u32 = 51;
