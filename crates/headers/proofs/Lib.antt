@@ -1,0 +1,4 @@
+pub mod Fields
+pub mod Littles
+pub mod Checksums
+pub mod Made

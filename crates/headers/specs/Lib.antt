@@ -1,0 +1,4 @@
+pub mod Little
+pub mod ProductHeader
+pub mod ImageHeader
+pub mod Made
