@@ -1,8 +1,8 @@
 /* Undalisho: the serial boot line of Dialog chips.
  *
  * It plays a chip's end of the line (the boot ROM's receiver, and the loader uartboot), makes the frame that a host
- * sends to the receiver, names the flash slot that will start, orders versions, and says what headers and commands hold.
- * What a function gives and writes follows from its arguments alone.
+ * sends to the receiver, names the flash slot that will start, orders versions, says what headers and commands hold, and
+ * makes headers. What a function gives and writes follows from its arguments alone.
  *
  * For x86-64 Linux. To compile and link:
  *
@@ -185,6 +185,33 @@ typedef struct {
  * Writes:  nothing that is lent
  */
 und_product und_read_product(const uint8_t *flash, size_t flash_len, uint32_t header_offset);
+
+typedef struct {
+    uint32_t number;
+    uint8_t bytes[64]; /* the header; all 00 when refused */
+} und_image_header;
+
+/* The image header of a code. Header and code, one behind the other, are a valid image: at any offset of a flash, and as
+ * a file. The reserved bytes are 00.
+ *
+ * Number:  0
+ *          41  code_len is 0
+ *          42  code_len is above 131072
+ *          61  the text of the version is malformed, or version_len is not 16
+ * Writes:  nothing that is lent
+ */
+und_image_header und_make_image_header(const uint8_t *code, size_t code_len, uint8_t id, const uint8_t *version,
+                                       size_t version_len, uint32_t time);
+
+typedef struct {
+    uint8_t bytes[12];
+} und_product_header;
+
+/* The product header that names two flash offsets, whatever stands there. The two bytes that are not tested are 00.
+ *
+ * Writes:  nothing that is lent
+ */
+und_product_header und_make_product_header(uint32_t first, uint32_t second);
 
 /* ---- Sessions ----
  *

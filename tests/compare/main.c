@@ -19,6 +19,8 @@ static const case_kind kinds[] = {
     {"select", 6, select_case},
     {"offer", 4, offer_case},
     {"command", 4, command_case},
+    {"image header", 4, image_header_case},
+    {"product header", 1, product_header_case},
     {"frame", 4, frame_case},
     {"ROM stream", 8, rom_stream_case},
     {"uartboot stream", 24, uartboot_stream_case},

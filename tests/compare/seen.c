@@ -22,6 +22,7 @@ static const wanted all[SEENS] = {
     [SEEN_ORDER_NUMBER] = {"number of an order", {0, 61, -1}},
     [SEEN_SELECT_NUMBER] = {"number of the selector", {0, 3, 51, 52, 53, -1}},
     [SEEN_OFFER_NUMBER] = {"number of an offer", {0, 61, 62, 63, -1}},
+    [SEEN_IMAGE_HEADER_NUMBER] = {"number of an image header", {0, 41, 42, 61, -1}},
     [SEEN_FRAME_P_NUMBER] = {"number of a frame for P", {0, 41, 42, 43, -1}},
     [SEEN_FRAME_E_NUMBER] = {"number of a frame for E", {0, 41, 42, 43, -1}},
     [SEEN_ROM_NUMBER] = {"number of a receiver", {0, 2, 4, -1}},

@@ -9,7 +9,7 @@ typedef enum {
     /* numbers, by what gave them */
     SEEN_RANK_NUMBER, SEEN_ORDER_NUMBER, SEEN_SELECT_NUMBER, SEEN_OFFER_NUMBER,
     SEEN_FRAME_P_NUMBER, SEEN_FRAME_E_NUMBER, SEEN_ROM_NUMBER, SEEN_UARTBOOT_NUMBER,
-    SEEN_PRODUCT_NUMBER, SEEN_COMMAND_NUMBER,
+    SEEN_PRODUCT_NUMBER, SEEN_COMMAND_NUMBER, SEEN_IMAGE_HEADER_NUMBER,
     /* rules that images broke, and opcodes whose payload was read */
     SEEN_RULE, SEEN_COMMAND_OPCODE,
     /* what sessions reached from a fresh record */

@@ -22,6 +22,8 @@ void version_case(trial *t);
 void select_case(trial *t);
 void offer_case(trial *t);
 void command_case(trial *t);
+void image_header_case(trial *t);
+void product_header_case(trial *t);
 void frame_case(trial *t);
 void rom_stream_case(trial *t);
 void uartboot_stream_case(trial *t);

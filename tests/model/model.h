@@ -57,6 +57,20 @@ model_image model_read_image(const uint8_t *memory, size_t length, uint32_t offs
 model_product model_read_product(const uint8_t *flash, size_t length, uint32_t header);
 model_command model_read_command(uint32_t opcode, const uint8_t *payload, size_t length);
 
+/* Headers that are made. */
+typedef struct {
+    uint32_t number;
+    uint8_t bytes[IMAGE_HEADER];
+} model_image_header;
+
+typedef struct {
+    uint8_t bytes[PRODUCT_HEADER];
+} model_product_header;
+
+model_image_header model_make_image_header(const uint8_t *code, size_t length, uint8_t id, const uint8_t *version, size_t version_length,
+                                           uint32_t time);
+model_product_header model_make_product_header(uint32_t first, uint32_t second);
+
 /* Sessions. A record is eight words. */
 enum { KIND_P, KIND_E, KIND_UARTBOOT };
 enum { WORD_KIND, WORD_PHASE, WORD_OPCODE, WORD_LENGTH, WORD_PLACE, WORD_HELD, WORD_REASON, WORD_SPARE, WORDS };
