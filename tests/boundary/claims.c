@@ -151,6 +151,8 @@ static void null_where_empty(void)
     HOLD(und_read_image(NULL, 0, 0).rule == UND_RULE_HEADER);
     HOLD(und_read_product(NULL, 0, 0).number == 3);
     HOLD(und_read_command(0x0B, NULL, 0).number == 0);
+    HOLD(und_make_image_header(NULL, 0, 0, NULL, 0, 0).number == 41);
+    HOLD(und_make_image_header(ram, 1, 0, NULL, 0, 0).number == 61);
     HOLD(und_rom_call(record, NULL, 0, NULL, 0, ram, 1).standing == UND_WANTS_ROOM);
     HOLD(und_rom_call(record, NULL, 0, NULL, 0, NULL, 0).number == 2);
     HOLD(und_uartboot_call(record, NULL, 0, NULL, 0, NULL, 0, NULL, 0, NULL, 0).number == 1);

@@ -29,6 +29,15 @@ static int readings(void)
            und_read_command(0x05, run, sizeof run).address == UND_RAM_FIRST;
 }
 
+static int makings(void)
+{
+    static const uint8_t version[16] = "1.10";
+    und_image_header image = und_make_image_header(flash, 1, 255, version, sizeof version, 1);
+
+    return image.number == 0 && image.bytes[3] == 255 && image.bytes[28] == 1 &&
+           und_make_product_header(0, 0xFF000000u).bytes[11] == 0xFF;
+}
+
 static int runs(uint32_t kind, und_framed framed)
 {
     und_report r;
@@ -58,7 +67,7 @@ static int uartboot(void)
 
 int main(void)
 {
-    if (versions() && images() && readings() && receivers() && uartboot())
+    if (versions() && images() && readings() && makings() && receivers() && uartboot())
         return 0;
     fprintf(stderr, "installed: the library answers otherwise\n");
     return 1;

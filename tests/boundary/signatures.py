@@ -20,6 +20,8 @@ TYPEDEFS = {
     "ImageRead": "und_image",
     "ProductRead": "und_product",
     "CommandRead": "und_command",
+    "ImageHeader": "und_image_header",
+    "ProductHeader": "und_product_header",
 }
 
 # The header's name for a Rattle parameter of one function, or of all, where it has another.

@@ -16,6 +16,7 @@ from agree import Differs, agree
 HEADER, README = "include/undalisho.h", "README.md"
 CAPI, FRAME, OFFER = "crates/capi/src/lib.rt", "crates/frame/src/lib.rt", "crates/offer/src/lib.rt"
 CAPI_INSPECT, IMAGE_HEADER = "crates/capi_inspect/src/lib.rt", "crates/inspect/src/image_header.rt"
+CAPI_HEADERS, HEADERS, IMAGE = "crates/capi_headers/src/lib.rt", "crates/headers/src/lib.rt", "crates/image/src/lib.rt"
 RANK, ORDER = "crates/version/src/rank.rt", "crates/version/src/order.rt"
 
 # By file: what is wrong, what stands there once, what is put in its place, what the refusal says (a regular expression).
@@ -34,6 +35,7 @@ EDITS = {
         ("parameter added", "size_t field_len", "size_t field_len, uint32_t more", "conflicting types for 'und_rank'"),
         ("number behind the bytes", "uint32_t opcode, const uint8_t *payload, size_t payload_len",
          "const uint8_t *payload, size_t payload_len, uint32_t opcode", "conflicting types for 'und_read_command'"),
+        ("byte of 32 bits as parameter", "uint8_t id,", "uint32_t id,", "conflicting types for 'und_make_image_header'"),
         ("const dropped", "(const uint8_t *field", "(uint8_t *field", "conflicting types for 'und_rank'"),
         ("const added", "uint8_t *work, size_t", "const uint8_t *work, size_t", "conflicting types for 'und_uartboot_call'"),
         ("record that is only read", "uartboot_fresh(uint32_t record[8])", "uartboot_fresh(const uint32_t record[8])",
@@ -46,6 +48,8 @@ EDITS = {
          "conflicting types for 'und_frame_e'"),
         ("result of another reading", "und_product und_read_product(", "und_selected und_read_product(",
          "conflicting types for 'und_read_product'"),
+        ("other header as result", "und_product_header und_make_product_header(", "und_image_header und_make_product_header(",
+         "conflicting types for 'und_make_product_header'"),
         ("result where there is none", "void und_uartboot_fresh(", "uint32_t und_uartboot_fresh(",
          "conflicting types for 'und_uartboot_fresh'"),
         ("lent memories swapped", "uint8_t *installed, size_t installed_len, const uint8_t *candidate, size_t candidate_len",
@@ -54,6 +58,8 @@ EDITS = {
         ("parameter renamed", "und_read_product(const uint8_t *flash, size_t flash_len, uint32_t header_offset",
          "und_read_product(const uint8_t *flash, size_t flash_len, uint32_t offset",
          "the header gives und_read_product the parameters"),
+        ("offsets swapped", "uint32_t first, uint32_t second", "uint32_t second, uint32_t first",
+         "the header gives und_make_product_header the parameters"),
         # Structs.
         ("fields swapped", "uint32_t number;\n    uint32_t slot;", "uint32_t slot;\n    uint32_t number;",
          'static assertion failed: "und_selected.number: place"'),
@@ -76,6 +82,10 @@ EDITS = {
         ("field of 64 bits on any machine", "size_t taken;", "uint64_t taken;",
          'static assertion failed: "und_report.taken: type"'),
         ("longer array", "rank[4]", "rank[5]", 'static assertion failed: "und_ranked.rank: type"'),
+        ("longer header", "bytes[64]", "bytes[65]", 'static assertion failed: "und_image_header.bytes: type"'),
+        ("shorter header", "bytes[12]", "bytes[11]", 'static assertion failed: "und_product_header.bytes: type"'),
+        ("number behind the bytes", "uint32_t number;\n    uint8_t bytes[64];", "uint8_t bytes[64];\n    uint32_t number;",
+         'static assertion failed: "und_image_header.number: place"'),
         ("field renamed", "uint32_t slot;", "uint32_t image;", "'und_selected' has no member named 'slot'"),
         ("field left out", "size_t size;", "", "'und_offered' has no member named 'size'"),
         ("field added at the end", " int32_t order;", " int32_t order, more;",
@@ -91,6 +101,8 @@ EDITS = {
          "the header has .'function und_more'. that"),
         ("reading left out", "und_image und_read_image(const uint8_t *memory, size_t memory_len, uint32_t offset);", "",
          "lacks .'function und_read_image'."),
+        ("making left out", "und_product_header und_make_product_header(uint32_t first, uint32_t second);", "",
+         "lacks .'function und_make_product_header'."),
         ("function renamed", "und_ranked und_rank(", "und_ranked und_ranks(",
          "the header has .'function und_ranks'. that .*lacks .'function und_rank'."),
         ("variable added", "/* ---- Versions", "extern int und_state;\n/* ---- Versions",
@@ -129,6 +141,10 @@ EDITS = {
          '(?s)^README.md:.* static assertion failed: "und_command.address: place"'),
         ("reading left out", "und_product  und_read_product(const uint8_t *flash, size_t flash_len, uint32_t header_offset);",
          "", "README.md .*lacks .'function und_read_product'."),
+        ("longer header", "bytes[64]", "bytes[65]",
+         '(?s)^README.md:.* static assertion failed: "und_image_header.bytes: type"'),
+        ("time of 64 bits", "uint32_t time);", "uint64_t time);",
+         "(?s)^README.md:.* conflicting types for 'und_make_image_header'"),
     ],
     CAPI: [
         ("lent memories swapped", "installed: &[u8], candidate: &[u8]", "candidate: &[u8], installed: &[u8]",
@@ -147,6 +163,17 @@ EDITS = {
         ("other struct as result", ") -> ImageRead", ") -> ProductRead", "conflicting types for 'und_read_image'"),
         ("function renamed", "fn und_read_product(", "fn und_product_at(", "lacks .'function und_product_at'."),
     ],
+    CAPI_HEADERS: [
+        ("parameter of another width", "id: u8,", "id: u32,", "conflicting types for 'und_make_image_header'"),
+        ("offsets swapped", "first: u32, second: u32", "second: u32, first: u32",
+         "the header gives und_make_product_header the parameters"),
+        ("function renamed", "fn und_make_product_header(", "fn und_make_products(", "lacks .'function und_make_products'."),
+    ],
+    HEADERS: [("fields swapped", "pub number: u32,\n    pub bytes: [u8; HEADER],",
+               "pub bytes: [u8; HEADER],\n    pub number: u32,",
+               'static assertion failed: "und_image_header.bytes: place"')],
+    IMAGE: [("longer header", "HEADER: usize = 64", "HEADER: usize = 65",
+             'static assertion failed: "und_image_header.bytes: type"')],
     IMAGE_HEADER: [("fields swapped", "pub version_place: usize,\n    pub code_place: usize,",
                     "pub code_place: usize,\n    pub version_place: usize,",
                     'static assertion failed: "und_image.code_place: place"')],
@@ -161,6 +188,8 @@ EDITS = {
 # What is wrong, what objcopy is told, what the refusal says.
 ARCHIVES = [
     ("function left out", "--localize-symbol=und_rank", "the archive .*lacks .'function und_rank'."),
+    ("making left out", "--localize-symbol=und_make_image_header",
+     "the archive .*lacks .'function und_make_image_header'."),
     ("reading left out", "--localize-symbol=und_read_image", "the archive .*lacks .'function und_read_image'."),
     ("function renamed", "--redefine-sym=und_rank=und_ranks", "the archive has .'function und_ranks'."),
     ("symbol added", "--add-symbol=und_state=0,global,object", "the archive has .'A und_state'"),
