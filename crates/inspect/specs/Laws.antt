@@ -19,4 +19,6 @@ RuleExactly memory offset =
 
 -- where a product header is refused, the slot is refused with the same number
 abbrev pub SameRefusal : (flash : List ℕ) (offset : ℕ) → Type 0
-SameRefusal flash offset = (readProduct flash offset .number ≡ 0 → ⊥) → selectOf flash offset ≡ refused (readProduct flash offset .number)
+SameRefusal flash offset =
+    (readProduct flash offset .number ≡ 0 → ⊥)
+    → selectOf flash offset ≡ refused (readProduct flash offset .number)
