@@ -1,17 +1,23 @@
-# The library for C: make lib, install, uninstall, clean; make test runs all tests, make bench all measurements.
-VERSION := 0.1.0
+# The library for C and the bench tool: make, make demo, install, uninstall, clean; make lib is the library alone; make test runs all
+# tests, make bench all measurements.
+VERSION := 0.2.0
 
 PREFIX ?= /usr/local
 INCLUDEDIR = $(PREFIX)/include
 LIBDIR = $(PREFIX)/lib
+BINDIR = $(PREFIX)/bin
+MANDIR = $(PREFIX)/share/man
 INSTALL = install
+CFLAGS = -O2 -g
 
 BUILD := build
 # An archive that is already built, if it is given: ARCHIVE=path.
 ARCHIVE := $(BUILD)/libundalisho.a
 
-.PHONY: lib install uninstall clean test bench force
+.PHONY: all lib demo install uninstall clean test bench force
 .DELETE_ON_ERROR:
+
+all: lib $(BUILD)/undalisho
 
 lib: $(ARCHIVE) $(BUILD)/undalisho.pc
 
@@ -45,18 +51,31 @@ $(BUILD)/undalisho.pc: undalisho.pc.in force | $(BUILD)
 		-e 's|@LIBDIR@|$(LIBDIR)|' $< > $@.new
 	@if cmp -s $@.new $@; then rm $@.new; else mv $@.new $@; fi
 
+# POSIX, and its X/Open part for pseudo-terminals.
+STRICT := -std=c99 -D_XOPEN_SOURCE=700 -Wall -Wextra -Wpedantic
+
+$(BUILD)/undalisho: $(wildcard tool/*.c tool/*.h) include/undalisho.h $(ARCHIVE) Makefile | $(BUILD)
+	@command -v $(CC) >/dev/null || tests/need gcc libc6-dev
+	$(CC) $(STRICT) $(CFLAGS) -DVERSION='"$(VERSION)"' -Iinclude -Itool $(filter %.c,$^) $(ARCHIVE) $(LDFLAGS) -o $@
+
+demo: all
+	@$(BUILD)/undalisho demo
+
 $(BUILD):
 	@mkdir -p $@
 
-install: lib
-	$(INSTALL) -d $(DESTDIR)$(INCLUDEDIR) $(DESTDIR)$(LIBDIR)/pkgconfig
+install: all
+	$(INSTALL) -d $(DESTDIR)$(INCLUDEDIR) $(DESTDIR)$(LIBDIR)/pkgconfig $(DESTDIR)$(BINDIR) $(DESTDIR)$(MANDIR)/man1
 	$(INSTALL) -m 644 include/undalisho.h $(DESTDIR)$(INCLUDEDIR)/undalisho.h
 	$(INSTALL) -m 644 $(ARCHIVE) $(DESTDIR)$(LIBDIR)/libundalisho.a
 	$(INSTALL) -m 644 $(BUILD)/undalisho.pc $(DESTDIR)$(LIBDIR)/pkgconfig/undalisho.pc
+	$(INSTALL) -m 755 $(BUILD)/undalisho $(DESTDIR)$(BINDIR)/undalisho
+	$(INSTALL) -m 644 tool/undalisho.1 $(DESTDIR)$(MANDIR)/man1/undalisho.1
 
 uninstall:
 	rm -f $(DESTDIR)$(INCLUDEDIR)/undalisho.h $(DESTDIR)$(LIBDIR)/libundalisho.a
 	rm -f $(DESTDIR)$(LIBDIR)/pkgconfig/undalisho.pc
+	rm -f $(DESTDIR)$(BINDIR)/undalisho $(DESTDIR)$(MANDIR)/man1/undalisho.1
 
 clean:
 	rm -rf $(BUILD)

@@ -1,0 +1,102 @@
+#include "files.h"
+
+#include "replace.h"
+#include "text.h"
+
+#include <errno.h>
+#include <fcntl.h>
+#include <stdlib.h>
+#include <sys/stat.h>
+#include <unistd.h>
+
+enum { PIECE = 1 << 16 };
+
+bool read_open(int fd, size_t most, content *c)
+{
+    size_t room = PIECE;
+    *c = (content){memory_of(room), 0};
+    for (;;) {
+        size_t left = most + 1 - c->length;
+        if (c->length == room) {
+            uint8_t *more = realloc(c->bytes, room *= 2);
+            if (!more)
+                break;
+            c->bytes = more;
+        }
+        if (left > room - c->length)
+            left = room - c->length;
+        ssize_t count = left ? read(fd, c->bytes + c->length, left) : 0;
+        if (count == 0)
+            return true;
+        if (count < 0 && errno != EINTR)
+            break;
+        c->length += count > 0 ? (size_t)count : 0;
+    }
+    free(c->bytes);
+    *c = (content){NULL, 0};
+    return false;
+}
+
+bool read_file(const char *path, size_t most, content *c)
+{
+    int fd = open(path, O_RDONLY | O_CLOEXEC);
+    if (fd < 0)
+        return false;
+    bool whole = read_open(fd, most, c);
+    int reason = errno;
+    close(fd);
+    errno = reason;
+    return whole;
+}
+
+bool write_all(int fd, const void *bytes, size_t length)
+{
+    const uint8_t *at = bytes;
+    while (length > 0) {
+        ssize_t count = write(fd, at, length);
+        if (count < 0 && errno != EINTR)
+            return false;
+        if (count > 0) {
+            at += count;
+            length -= (size_t)count;
+        }
+    }
+    return true;
+}
+
+static mode_t mode_for_new_files(void)
+{
+    mode_t mask = umask(0);
+    umask(mask);
+    return 0666 & ~mask;
+}
+
+static bool write_in_place(const char *path, const uint8_t *bytes, size_t length)
+{
+    int fd = open(path, O_WRONLY | O_CLOEXEC);
+    if (fd < 0)
+        return false;
+    bool whole = write_all(fd, bytes, length);
+    int reason = errno;
+    bool closed = close(fd) == 0;
+    if (!whole)
+        errno = reason;
+    return whole && closed;
+}
+
+bool write_file(const char *path, const uint8_t *bytes, size_t length)
+{
+    struct stat there;
+    bool exists = stat(path, &there) == 0;
+    if (exists && !S_ISREG(there.st_mode))
+        return write_in_place(path, bytes, length);
+    char *real = exists ? realpath(path, NULL) : NULL;
+    mode_t mode = exists ? there.st_mode & 07777 : mode_for_new_files();
+    int fd = replace_file(real ? real : path, mode, bytes, length);
+    int reason = errno;
+    free(real);
+    if (fd >= 0)
+        close(fd);
+    errno = reason;
+    return fd >= 0;
+}

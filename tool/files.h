@@ -1,0 +1,26 @@
+/* Files: read whole, and replaced so that at any moment the old or the new one is there. */
+#ifndef FILES_H
+#define FILES_H
+
+#include <stdbool.h>
+#include <stddef.h>
+#include <stdint.h>
+
+typedef struct {
+    uint8_t *bytes;
+    size_t length;
+} content;
+
+/* Reads a file. Of a longer one only the first `most` + 1 bytes. On failure errno says why. */
+bool read_file(const char *path, size_t most, content *c);
+
+/* Reads what an open file has from its start on, likewise. */
+bool read_open(int fd, size_t most, content *c);
+
+/* Writes a file. A regular one is replaced whole or not at all; a terminal or a pipe is written to. */
+bool write_file(const char *path, const uint8_t *bytes, size_t length);
+
+/* Writes all bytes to a descriptor. */
+bool write_all(int fd, const void *bytes, size_t length);
+
+#endif

@@ -1,0 +1,73 @@
+#include "kept.h"
+
+#include "replace.h"
+
+#include <errno.h>
+#include <fcntl.h>
+#include <stdlib.h>
+#include <sys/stat.h>
+#include <unistd.h>
+
+/* Whether the name still means the open file: another program may have replaced it before the lock was had. */
+static bool is_current(int fd, const char *path)
+{
+    struct stat open_one, named;
+    return fstat(fd, &open_one) == 0 && stat(path, &named) == 0 && open_one.st_ino == named.st_ino &&
+           open_one.st_dev == named.st_dev;
+}
+
+static int open_locked(const char *path)
+{
+    for (;;) {
+        struct stat there;
+        int fd = open(path, O_RDWR | O_CLOEXEC);
+        if (fd < 0)
+            return -1;
+        errno = EINVAL;
+        bool regular = fstat(fd, &there) == 0 && S_ISREG(there.st_mode);
+        bool locked = regular && lock_file(fd);
+        if (locked && is_current(fd, path))
+            return fd;
+        int reason = errno;
+        close(fd);
+        errno = reason;
+        if (!locked)
+            return -1;
+    }
+}
+
+bool kept_open(kept_file *k, const char *path, size_t most, content *c)
+{
+    k->fd = -1;
+    k->path = realpath(path, NULL);
+    if (!k->path)
+        return false;
+    k->fd = open_locked(k->path);
+    if (k->fd >= 0 && read_open(k->fd, most, c))
+        return true;
+    int reason = errno;
+    kept_close(k);
+    errno = reason;
+    return false;
+}
+
+bool kept_replace(kept_file *k, const uint8_t *bytes, size_t length)
+{
+    struct stat there;
+    if (fstat(k->fd, &there) != 0)
+        return false;
+    int fd = replace_file(k->path, there.st_mode & 07777, bytes, length);
+    if (fd < 0)
+        return false;
+    close(k->fd);
+    k->fd = fd;
+    return true;
+}
+
+void kept_close(kept_file *k)
+{
+    if (k->fd >= 0)
+        close(k->fd);
+    free(k->path);
+    *k = (kept_file){NULL, -1};
+}

@@ -1,0 +1,167 @@
+/* The speeds beyond 38400 are not POSIX's; where the system has them, they are used. */
+#define _DEFAULT_SOURCE
+#include "line.h"
+
+#include "signals.h"
+
+#include <errno.h>
+#include <fcntl.h>
+#include <poll.h>
+#include <stdlib.h>
+#include <string.h>
+#include <termios.h>
+#include <unistd.h>
+
+typedef struct {
+    unsigned long baud;
+    speed_t speed;
+} speed_row;
+
+static const speed_row speeds[] = {
+    {9600, B9600},       {19200, B19200}, {38400, B38400},
+#ifdef B57600
+    {57600, B57600},
+#endif
+#ifdef B115200
+    {115200, B115200},
+#endif
+#ifdef B230400
+    {230400, B230400},
+#endif
+#ifdef B460800
+    {460800, B460800},
+#endif
+#ifdef B921600
+    {921600, B921600},
+#endif
+#ifdef B1000000
+    {1000000, B1000000},
+#endif
+};
+
+static const speed_row *find_speed(unsigned long baud)
+{
+    for (size_t i = 0; i < sizeof speeds / sizeof *speeds; i++)
+        if (speeds[i].baud == baud)
+            return &speeds[i];
+    return NULL;
+}
+
+bool line_has_baud(unsigned long baud)
+{
+    return find_speed(baud) != NULL;
+}
+
+/* Bytes as they come, one by one, with no echo and no meaning; 8-N-1; the modem lines are not looked at. */
+static bool make_raw(int fd, unsigned long baud)
+{
+    struct termios t;
+    const speed_row *row = find_speed(baud);
+    if (tcgetattr(fd, &t) != 0)
+        return false;
+    t.c_iflag = IGNBRK;
+    t.c_oflag = 0;
+    t.c_lflag = 0;
+    t.c_cflag = CS8 | CREAD | CLOCAL;
+    t.c_cc[VMIN] = 1;
+    t.c_cc[VTIME] = 0;
+    if (row && (cfsetispeed(&t, row->speed) != 0 || cfsetospeed(&t, row->speed) != 0))
+        return false;
+    return tcsetattr(fd, TCSANOW, &t) == 0;
+}
+
+static bool is_prepared(int fd, unsigned long baud)
+{
+    int flags = fcntl(fd, F_GETFL);
+    return fd >= 0 && make_raw(fd, baud) && fcntl(fd, F_SETFL, flags | O_NONBLOCK) == 0 &&
+           fcntl(fd, F_SETFD, FD_CLOEXEC) == 0;
+}
+
+static bool give_up(line *l)
+{
+    int reason = errno;
+    line_close(l);
+    errno = reason;
+    return false;
+}
+
+bool line_make(line *l)
+{
+    *l = (line){NULL, posix_openpt(O_RDWR | O_NOCTTY), -1, 115200};
+    if (l->fd < 0 || grantpt(l->fd) != 0 || unlockpt(l->fd) != 0)
+        return give_up(l);
+    const char *name = ptsname(l->fd);
+    l->path = name ? strdup(name) : NULL;
+    l->host_end = l->path ? open(l->path, O_RDWR | O_NOCTTY | O_CLOEXEC) : -1;
+    if (l->host_end < 0 || !make_raw(l->host_end, l->baud))
+        return give_up(l);
+    if (fcntl(l->fd, F_SETFL, O_RDWR | O_NONBLOCK) != 0 || fcntl(l->fd, F_SETFD, FD_CLOEXEC) != 0)
+        return give_up(l);
+    return true;
+}
+
+bool line_open(line *l, const char *path, unsigned long baud)
+{
+    *l = (line){path, -1, -1, baud};
+    return line_reopen(l);
+}
+
+bool line_reopen(line *l)
+{
+    line_close(l);
+    l->fd = open(l->path, O_RDWR | O_NOCTTY | O_NONBLOCK | O_CLOEXEC);
+    return l->fd >= 0 && is_prepared(l->fd, l->baud) ? true : give_up(l);
+}
+
+void line_close(line *l)
+{
+    if (l->fd >= 0)
+        close(l->fd);
+    if (l->host_end >= 0)
+        close(l->host_end);
+    l->fd = l->host_end = -1;
+}
+
+/* Waits until the line may be read or written, or has hung up, or a signal has come. */
+static line_event wait_for(line *l, short what, int milliseconds)
+{
+    struct pollfd waited[] = {{.fd = l->fd, .events = what}, {.fd = signals_fd(), .events = POLLIN}};
+    int ready = poll(waited, 2, milliseconds);
+    if (ready < 0)
+        return errno == EINTR ? LINE_SIGNALLED : LINE_GONE;
+    if (ready == 0)
+        return LINE_QUIET;
+    if (waited[1].revents)
+        return LINE_SIGNALLED;
+    return waited[0].revents & what ? LINE_OK : LINE_GONE;
+}
+
+line_event line_read(line *l, uint8_t *bytes, size_t room, int milliseconds, size_t *count)
+{
+    *count = 0;
+    line_event event = wait_for(l, POLLIN, milliseconds);
+    if (event != LINE_OK)
+        return event;
+    ssize_t taken = read(l->fd, bytes, room);
+    if (taken > 0)
+        *count = (size_t)taken;
+    return taken > 0 || (taken < 0 && (errno == EAGAIN || errno == EINTR)) ? LINE_OK : LINE_GONE;
+}
+
+line_event line_write(line *l, const uint8_t *bytes, size_t length, int milliseconds, size_t *count)
+{
+    *count = 0;
+    line_event event = wait_for(l, POLLOUT, milliseconds);
+    if (event != LINE_OK)
+        return event;
+    ssize_t sent = write(l->fd, bytes, length);
+    if (sent > 0)
+        *count = (size_t)sent;
+    return sent >= 0 || errno == EAGAIN || errno == EINTR ? LINE_OK : LINE_GONE;
+}
+
+void line_drain(line *l)
+{
+    while (tcdrain(l->fd) != 0 && errno == EINTR) {
+    }
+}

@@ -1,0 +1,47 @@
+/* A serial line: a port, or a pseudo-terminal whose other end a host opens. */
+#ifndef LINE_H
+#define LINE_H
+
+#include <stdbool.h>
+#include <stddef.h>
+#include <stdint.h>
+
+typedef struct {
+    const char *path; /* what a host opens, or the port */
+    int fd;
+    int host_end; /* of a pseudo-terminal of our own; held open, so that a host may come and go; else -1 */
+    unsigned long baud;
+} line;
+
+typedef enum {
+    LINE_OK,
+    LINE_QUIET,    /* nothing happened for so long */
+    LINE_GONE,     /* hung up */
+    LINE_SIGNALLED /* a signal has come */
+} line_event;
+
+/* Whether a port can have this speed. */
+bool line_has_baud(unsigned long baud);
+
+/* Makes a pseudo-terminal. On failure errno says why. */
+bool line_make(line *l);
+
+/* Opens a port, raw, with 8 bits, no parity, one stop bit. What waits there already is kept. On failure errno says why.
+ */
+bool line_open(line *l, const char *path, unsigned long baud);
+
+/* Opens the port again, as it was opened first. */
+bool line_reopen(line *l);
+
+void line_close(line *l);
+
+/* Waits for bytes, `milliseconds` at most, or for ever if that is negative; takes what is there, up to `room`. */
+line_event line_read(line *l, uint8_t *bytes, size_t room, int milliseconds, size_t *count);
+
+/* Writes some of the bytes, as many as the line takes; waits likewise until it takes one. */
+line_event line_write(line *l, const uint8_t *bytes, size_t length, int milliseconds, size_t *count);
+
+/* Waits until all that was written has left. */
+void line_drain(line *l);
+
+#endif

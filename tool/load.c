@@ -1,0 +1,211 @@
+/* undalisho load: the host's side of the boot ROM's line.
+ *
+ * What the chip has to answer, and when it is its turn, comes from a receiver of the library that is fed the same
+ * frame: the host sends what that one takes, and waits for what that one sends.
+ */
+#include "load.h"
+
+#include "boot.h"
+#include "commands.h"
+#include "exits.h"
+#include "options.h"
+#include "progress.h"
+#include "say.h"
+#include "session.h"
+#include "story.h"
+
+#include <errno.h>
+#include <stdio.h>
+#include <stdlib.h>
+#include <string.h>
+#include <time.h>
+#include <unistd.h>
+
+enum { USUAL_BAUD = 115200, USUAL_SECONDS = 10, PIECE = 1024, MOST_SECONDS = 86400 };
+
+static const char *const check_line =
+    "see that the monitor has power, the right port, kind and baud rate; reset it, then load again";
+
+static int tell_silent(const loading *l)
+{
+    return fail(check_line, "silent: what is due has not come from %s for %lu seconds", l->line.path, l->seconds);
+}
+
+static int tell_gone(const loading *l)
+{
+    return fail("plug it in again, then load again", "%s has hung up", l->line.path);
+}
+
+static int tell_event(const loading *l, line_event event)
+{
+    errno = 0;
+    switch (event) {
+    case LINE_OK: return DONE;
+    case LINE_QUIET: return tell_silent(l);
+    case LINE_GONE: return tell_gone(l);
+    case LINE_SIGNALLED: break;
+    }
+    return fail("load again", "stopped in the middle of the load");
+}
+
+/* Sends bytes, with the bar for a long piece. */
+static int send_bytes(loading *l, const uint8_t *bytes, size_t length)
+{
+    size_t at = 0, sent;
+    bool bar = l->bar && length > 1;
+    while (at < length) {
+        size_t piece = length - at < PIECE ? length - at : PIECE;
+        line_event event = line_write(&l->line, bytes + at, piece, (int)l->seconds * 1000, &sent);
+        at += sent;
+        if (bar)
+            show_progress(at, length);
+        if (event != LINE_OK) {
+            end_progress(bar);
+            return tell_event(l, event);
+        }
+    }
+    end_progress(bar);
+    return DONE;
+}
+
+static long long milliseconds_now(void)
+{
+    struct timespec now;
+    clock_gettime(CLOCK_MONOTONIC, &now);
+    return (long long)now.tv_sec * 1000 + now.tv_nsec / 1000000;
+}
+
+/* Waits for a byte from the chip until `end`. */
+static int receive_byte(loading *l, long long end, uint8_t *byte)
+{
+    size_t count = 0;
+    while (count == 0) {
+        long long left = end - milliseconds_now();
+        line_event event = line_read(&l->line, byte, 1, left > 0 ? (int)left : 0, &count);
+        if (event != LINE_OK)
+            return tell_event(l, event);
+    }
+    return DONE;
+}
+
+/* The chip has sent another byte than the one that is due. */
+static int tell_other(loading *l, part due, uint8_t wanted, uint8_t got)
+{
+    log_event(&l->log, &(event){FROM_CHIP, "unexpected", &got, 1, 0, "not the byte that is due", NULL});
+    if (due == CHECKSUM) {
+        uint8_t nak = UND_LINE_NAK;
+        send_bytes(l, &nak, 1);
+        return refuse_line("load again; if it stays so, look at cable and baud rate",
+                           "refused: the checksum differs, the chip has %02X and the code %02X; it was not started",
+                           got, wanted);
+    }
+    if (got == UND_LINE_NAK)
+        return refuse_line("load a smaller code, or see whether the chip is of the other kind",
+                           "refused: the chip does not take a header for a code of this length");
+    return refuse_line(check_line, "refused: the chip has answered the header with %02X", got);
+}
+
+/* Waits for the byte that is due. Before the header, any other is passed over; before its answer, greetings are. */
+static int await_byte(loading *l, part due, uint8_t wanted)
+{
+    long long end = milliseconds_now() + (long long)l->seconds * 1000;
+    size_t passed = 0;
+    for (;; passed++) {
+        uint8_t got;
+        int code = receive_byte(l, end, &got);
+        bool other = code == DONE && got != wanted;
+        if (other && (due == GREETING || (due == HEADER_ANSWER && got == UND_LINE_GREETING)))
+            continue;
+        if (passed > 0)
+            log_note(&l->log, "passed-over", NULL, "%zu other bytes from the chip before this were passed over",
+                     passed);
+        return other ? tell_other(l, due, wanted, got) : code;
+    }
+}
+
+/* One turn of the receiver that is fed the frame, followed on the line. */
+static int follow(loading *l, session *twin, story *told, size_t *at)
+{
+    uint8_t reply;
+    uint32_t before[UND_RECORD_WORDS];
+    phase now = phase_of(twin->record);
+    memcpy(before, twin->record, sizeof before);
+    und_report r = session_turn(twin, l->frame.bytes + *at, l->frame.length - *at, &reply, 1);
+    if (r.number != 0)
+        return refuse(r.number, "%s", "");
+    int code = now.sends ? await_byte(l, now.part, reply) : send_bytes(l, l->frame.bytes + *at, r.taken);
+    if (code == DONE)
+        story_turn(told, before, twin->record, now.sends ? &reply : l->frame.bytes + *at, r.sent + r.taken);
+    *at += r.taken;
+    return code;
+}
+
+int load_frame(loading *l)
+{
+    session twin = {.ram = {memory_of(UND_RAM_MAX), UND_RAM_MAX}};
+    story told;
+    size_t at = 0;
+    int code = DONE;
+    session_fresh(&twin, l->kind);
+    story_begin(&told, &l->log);
+    while (code == DONE && phase_of(twin.record).part != RUNNING)
+        code = follow(l, &twin, &told, &at);
+    story_end(&told);
+    free(twin.ram.bytes);
+    if (code == DONE)
+        line_drain(&l->line);
+    return code;
+}
+
+static bool read_load_options(int count, char **words, loading *l, const char **port, unsigned long *baud)
+{
+    const char *kind = NULL;
+    const option options[] = {
+        {"--kind", WORD, &kind},       {"--port", WORD, port},
+        {"--baud", NUMBER, baud},      {"--wait", NUMBER, &l->seconds},
+        {"--log", WORD, &l->log.path}, {"--quiet", FLAG, &l->log.quiet},
+        {"--json", FLAG, &say_json},   {NULL, FLAG, NULL},
+    };
+    if (read_options(count, words, options, 1, 1) < 0 || !read_kind(kind, &l->kind))
+        return false;
+    if (!*port) {
+        misuse("--port DEVICE is missing: the line to the monitor");
+        return false;
+    }
+    if (!line_has_baud(*baud)) {
+        misuse("this system has no baud rate %lu", *baud);
+        return false;
+    }
+    if (l->seconds == 0 || l->seconds > MOST_SECONDS) {
+        misuse("--wait is from 1 to %d seconds", MOST_SECONDS);
+        return false;
+    }
+    return true;
+}
+
+int run_load(int count, char **words)
+{
+    static loading l = {.seconds = USUAL_SECONDS};
+    const char *port = NULL;
+    unsigned long baud = USUAL_BAUD;
+    content code_file;
+    if (!read_load_options(count, words, &l, &port, &baud))
+        return MISUSED;
+    int code = read_frame(words[0], l.kind, &l.frame, &code_file);
+    if (code != DONE)
+        return code;
+    errno = 0;
+    l.log.json = say_json;
+    if (!log_open(&l.log))
+        return fail("give --log a file that you may write to", "%s cannot be written", l.log.path);
+    if (!line_open(&l.line, port, baud))
+        return fail("plug the adapter in, see which device it is, and that you may use it", "%s cannot be opened",
+                    port);
+    l.bar = isatty(STDERR_FILENO) && !l.log.quiet && !say_json;
+    code = load_frame(&l);
+    l.log.quiet = false;
+    if (code == DONE)
+        log_note(&l.log, "running", NULL, "running: %zu bytes of code, checksum right", code_file.length);
+    log_close(&l.log);
+    return code == DONE && l.log.failed ? FAILED : code;
+}

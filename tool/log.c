@@ -1,0 +1,128 @@
+#include "log.h"
+
+#include "files.h"
+#include "words.h"
+
+#include <errno.h>
+#include <fcntl.h>
+#include <stdarg.h>
+#include <stdio.h>
+#include <string.h>
+#include <time.h>
+#include <unistd.h>
+
+/* So many bytes of an event are shown to people. */
+enum { SHOWN = 12, HEX_WIDTH = 3 * SHOWN };
+
+bool log_open(event_log *l)
+{
+    l->fd = -1;
+    if (!l->path)
+        return true;
+    l->fd = open(l->path, O_WRONLY | O_APPEND | O_CREAT | O_CLOEXEC, 0666);
+    return l->fd >= 0;
+}
+
+void log_close(event_log *l)
+{
+    if (l->fd >= 0 && close(l->fd) != 0)
+        l->failed = true;
+    l->fd = -1;
+}
+
+static const char *sender_name(sender from)
+{
+    return from == FROM_HOST ? "host" : from == FROM_CHIP ? "chip" : "";
+}
+
+/* The time of day here, or date and time in UTC. */
+static void add_time(text *t, bool utc)
+{
+    char words[32];
+    struct timespec now;
+    struct tm parts;
+    clock_gettime(CLOCK_REALTIME, &now);
+    if (utc)
+        gmtime_r(&now.tv_sec, &parts);
+    else
+        localtime_r(&now.tv_sec, &parts);
+    strftime(words, sizeof words, utc ? "%Y-%m-%dT%H:%M:%S" : "%H:%M:%S", &parts);
+    text_add(t, "%s.%03ld%s", words, now.tv_nsec / 1000000, utc ? "Z" : "");
+}
+
+static void add_for_people(text *t, const event *e)
+{
+    text hex = {0};
+    bool whole = e->count <= SHOWN;
+    text_add(&hex, "%s", "");
+    text_add_hex(&hex, e->bytes, whole ? e->count : SHOWN - 3, " ");
+    if (!whole)
+        text_add(&hex, " .. %02X", e->bytes[e->count - 1]);
+    add_time(t, false);
+    text_add(t, " %-4s  %-*s %s\n", sender_name(e->from), HEX_WIDTH, hex.chars, e->words);
+    text_free(&hex);
+}
+
+static void add_for_machines(text *t, const event *e)
+{
+    text_add(t, "{\"time\":\"");
+    add_time(t, true);
+    text_add(t, "\",\"event\":\"%s\"", e->name);
+    if (e->from != FROM_NOBODY) {
+        text_add(t, ",\"from\":\"%s\",\"count\":%zu,\"bytes\":\"", sender_name(e->from), e->count);
+        text_add_hex(t, e->bytes, e->count, "");
+        text_add(t, "\"");
+    }
+    if (e->reason != 0) {
+        const meaning *m = meaning_of(e->reason);
+        text_add(t, ",\"reason\":%u,\"cause\":", e->reason);
+        text_add_json(t, m->what, strlen(m->what));
+        text_add(t, ",\"next\":");
+        text_add_json(t, m->next, strlen(m->next));
+    }
+    if (e->path) {
+        text_add(t, ",\"path\":");
+        text_add_json(t, e->path, strlen(e->path));
+    }
+    text_add(t, ",\"words\":");
+    text_add_json(t, e->words, strlen(e->words));
+    text_add(t, "}\n");
+}
+
+static void tell_failure(event_log *l, const char *where)
+{
+    if (!l->failed)
+        fprintf(
+            stderr,
+            "undalisho: the log cannot be written to %s: %s\n  next: make room there; the session goes on without it\n",
+            where, strerror(errno));
+    l->failed = true;
+}
+
+void log_event(event_log *l, const event *e)
+{
+    text t = {0};
+    if (l->json)
+        add_for_machines(&t, e);
+    else
+        add_for_people(&t, e);
+    if (!l->quiet && (fwrite(t.chars, 1, t.length, stdout) != t.length || fflush(stdout) != 0)) {
+        l->quiet = true;
+        tell_failure(l, "standard output");
+    }
+    if (l->fd >= 0 && !write_all(l->fd, t.chars, t.length)) {
+        tell_failure(l, l->path);
+        log_close(l);
+    }
+    text_free(&t);
+}
+
+void log_note(event_log *l, const char *name, const char *path, const char *format, ...)
+{
+    char words[1024];
+    va_list args;
+    va_start(args, format);
+    vsnprintf(words, sizeof words, format, args);
+    va_end(args);
+    log_event(l, &(event){.from = FROM_NOBODY, .name = name, .words = words, .path = path});
+}

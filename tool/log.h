@@ -1,0 +1,36 @@
+/* The log: one line for each event, for people or for machines. */
+#ifndef LOG_H
+#define LOG_H
+
+#include "text.h"
+
+#include <stdbool.h>
+
+typedef enum { FROM_NOBODY, FROM_HOST, FROM_CHIP } sender;
+
+typedef struct {
+    sender from;
+    const char *name; /* one word, for machines */
+    const uint8_t *bytes;
+    size_t count;
+    uint32_t reason; /* of a refusal, else 0 */
+    const char *words;
+    const char *path; /* of a file or a line that the event is about, else NULL */
+} event;
+
+typedef struct {
+    const char *path; /* NULL: no file */
+    int fd;
+    bool quiet, json;
+    bool failed; /* a line could not be written; said once */
+} event_log;
+
+/* Opens the log's file to add to it, if it has one. On failure errno says why. */
+bool log_open(event_log *l);
+void log_event(event_log *l, const event *e);
+
+/* An event without bytes; `path` may be NULL. */
+void log_note(event_log *l, const char *name, const char *path, const char *format, ...) LIKE_PRINTF(4, 5);
+void log_close(event_log *l);
+
+#endif

@@ -1,0 +1,146 @@
+#include "monitor.h"
+
+#include "exits.h"
+#include "say.h"
+#include "signals.h"
+#include "story.h"
+
+#include <errno.h>
+#include <poll.h>
+#include <string.h>
+
+enum { PIECE = 4096, RETRY_MILLISECONDS = 500 };
+
+/* What came from the host and was not taken yet. */
+typedef struct {
+    uint8_t bytes[PIECE];
+    size_t at, end;
+} incoming;
+
+uint32_t monitor_refusal(monitor *m)
+{
+    uint8_t none;
+    session_fresh(&m->session, m->kind);
+    uint32_t number = session_turn(&m->session, NULL, 0, &none, 0).number;
+    if (number == 0 && m->then_uartboot) {
+        session_fresh(&m->session, UND_KIND_UARTBOOT);
+        number = session_turn(&m->session, NULL, 0, &none, 0).number;
+    }
+    return number;
+}
+
+/* Puts the flash into its file if it has changed since. What a host is told comes after that. */
+static int keep_flash(monitor *m)
+{
+    content *flash = &m->session.flash;
+    if (!m->flash_file.path || memcmp(flash->bytes, m->flash_kept.bytes, flash->length) == 0)
+        return DONE;
+    errno = 0;
+    if (!kept_replace(&m->flash_file, flash->bytes, flash->length))
+        return fail("make room and start again; the file is as it was before the last command, which the host was not "
+                    "told is done",
+                    "%s cannot be written", m->flash_file.path);
+    memcpy(m->flash_kept.bytes, flash->bytes, flash->length);
+    log_note(&m->log, "flash-kept", m->flash_file.path, "flash kept in %s", m->flash_file.path);
+    return DONE;
+}
+
+/* The port has hung up: waits until it is there again, or the end is asked for. */
+static void await_port(monitor *m)
+{
+    log_note(&m->log, "hung-up", m->line.path, "%s has hung up; the session waits as it stands", m->line.path);
+    line_close(&m->line);
+    while (!signals_stop()) {
+        poll(NULL, 0, RETRY_MILLISECONDS);
+        if (line_reopen(&m->line)) {
+            log_note(&m->log, "back", m->line.path, "%s is there again", m->line.path);
+            return;
+        }
+    }
+}
+
+/* Sends bytes to the host. Those that a line which hung up didn't take are lost, as on any wire. */
+static void send_all(monitor *m, const uint8_t *bytes, size_t length)
+{
+    size_t sent;
+    while (length > 0 && !signals_pending()) {
+        line_event event = line_write(&m->line, bytes, length, -1, &sent);
+        bytes += sent;
+        length -= sent;
+        if (event == LINE_GONE) {
+            await_port(m);
+            return;
+        }
+    }
+}
+
+/* One turn: its flash is kept, its reply sent, its event told. */
+static int turn(monitor *m, story *told, incoming *in)
+{
+    uint8_t reply[PIECE];
+    uint32_t before[UND_RECORD_WORDS];
+    memcpy(before, m->session.record, sizeof before);
+    und_report r = session_turn(&m->session, in->bytes + in->at, in->end - in->at, reply, sizeof reply);
+    if (r.number != 0)
+        return refuse(r.number, "%s", "");
+    int code = phase_of(before).part != phase_of(m->session.record).part ? keep_flash(m) : DONE;
+    if (code != DONE)
+        return code;
+    story_turn(told, before, m->session.record, r.sent ? reply : in->bytes + in->at, r.sent + r.taken);
+    in->at += r.taken;
+    send_all(m, reply, r.sent);
+    return DONE;
+}
+
+/* Waits for bytes from the host. */
+static void receive(monitor *m, story *told, incoming *in)
+{
+    size_t count;
+    story_rest(told);
+    line_event event = line_read(&m->line, in->bytes, sizeof in->bytes, -1, &count);
+    in->at = 0;
+    in->end = count;
+    if (event == LINE_GONE)
+        await_port(m);
+}
+
+static void press_reset(monitor *m, story *told, incoming *in, uint32_t kind)
+{
+    story_end(told);
+    story_begin(told, &m->log);
+    session_fresh(&m->session, kind);
+    in->at = in->end = 0;
+    log_note(&m->log, "reset", NULL, "reset: the session starts again; memories stay");
+}
+
+/* Plays one session until code runs. */
+static int play_session(monitor *m, uint32_t kind, incoming *in)
+{
+    story told;
+    int code = DONE;
+    story_begin(&told, &m->log);
+    session_fresh(&m->session, kind);
+    while (code == DONE && !signals_stop() && phase_of(m->session.record).part != RUNNING) {
+        if (signals_reset())
+            press_reset(m, &told, in, kind);
+        else if (in->at == in->end && !phase_of(m->session.record).sends)
+            receive(m, &told, in);
+        else
+            code = turn(m, &told, in);
+    }
+    story_end(&told);
+    return code;
+}
+
+int monitor_play(monitor *m)
+{
+    static incoming in;
+    int code = play_session(m, m->kind, &in);
+    if (code == DONE && m->then_uartboot && !signals_stop()) {
+        log_note(&m->log, "uartboot", NULL, "the code is taken to be uartboot, which is played now");
+        code = play_session(m, UND_KIND_UARTBOOT, &in);
+    }
+    if (code == DONE)
+        log_note(&m->log, "end", NULL, signals_stop() ? "stopped" : "code runs: the boot line is done");
+    return code;
+}

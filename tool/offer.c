@@ -1,0 +1,110 @@
+/* undalisho offer: of two image files, the one with the higher version. */
+#include "commands.h"
+#include "exits.h"
+#include "options.h"
+#include "say.h"
+#include "view.h"
+#include "words.h"
+
+#include <errno.h>
+#include <stdio.h>
+#include <string.h>
+
+enum { LARGEST_FILE = 1 << 26, VERSION_FIELD = 16 };
+
+typedef struct {
+    const char *role, *path;
+    content file;
+    und_image image;
+} offered_file;
+
+static int read_image_file(offered_file *f)
+{
+    errno = 0;
+    if (!read_file(f->path, LARGEST_FILE, &f->file))
+        return fail("name a file that can be read", "%s cannot be read", f->path);
+    errno = EFBIG;
+    if (f->file.length > LARGEST_FILE)
+        return fail("name an image file", "%s cannot be read", f->path);
+    f->image = und_read_image(f->file.bytes, f->file.length, 0);
+    return DONE;
+}
+
+static void print_files(const offered_file files[2])
+{
+    for (int i = 0; i < 2; i++) {
+        text t = {0};
+        add_image(&t, files[i].file.bytes, &files[i].image);
+        printf("%s %s: %s\n", files[i].role, files[i].path, t.chars);
+        text_free(&t);
+    }
+}
+
+static void print_offer(const offered_file files[2], und_offered offered)
+{
+    const uint8_t *old = files[0].file.bytes + files[0].image.version_place;
+    const uint8_t *new = files[1].file.bytes + files[1].image.version_place;
+    static const char *const words[] = {"the candidate's version is lower", "the versions are equal",
+                                        "its version is higher"};
+    int32_t order = und_order(new, VERSION_FIELD, old, VERSION_FIELD).order;
+    printf("take the %s: %s\n", files[offered.file - 1].role, words[order + 1]);
+}
+
+static void print_offer_json(const offered_file files[2], und_offered offered)
+{
+    text t = {0};
+    text_add(&t, "{\"number\":%u,\"file\":%u,\"place\":%zu,\"size\":%zu", offered.number, offered.file, offered.place,
+             offered.size);
+    if (offered.number != 0)
+        text_add_meaning(&t, meaning_of(offered.number));
+    for (int i = 0; i < 2; i++) {
+        text_add(&t, ",\"%s\":{\"path\":", files[i].role);
+        text_add_json(&t, files[i].path, strlen(files[i].path));
+        text_add(&t, ",");
+        add_image_json(&t, files[i].file.bytes, &files[i].image);
+        text_add(&t, "}");
+    }
+    text_add(&t, "}\n");
+    fputs(t.chars, stdout);
+    text_free(&t);
+}
+
+static int write_code(const char *out, const offered_file *winner, und_offered offered)
+{
+    if (!out)
+        return DONE;
+    errno = 0;
+    if (!write_file(out, winner->file.bytes + offered.place, offered.size))
+        return fail("give a place with room that you may write to; an older file there stays as it was",
+                    "%s cannot be written", out);
+    if (!say_json)
+        printf("its code, %zu bytes, is in %s\n", offered.size, out);
+    return DONE;
+}
+
+int run_offer(int count, char **words)
+{
+    const char *out = NULL;
+    const option options[] = {{"-o", WORD, &out}, {"--json", FLAG, &say_json}, {NULL, FLAG, NULL}};
+    if (read_options(count, words, options, 2, 2) < 0)
+        return MISUSED;
+    offered_file files[2] = {{.role = "installed", .path = words[0]}, {.role = "candidate", .path = words[1]}};
+    for (int i = 0; i < 2; i++) {
+        int code = read_image_file(&files[i]);
+        if (code != DONE)
+            return code;
+    }
+    und_offered offered =
+        und_offer(files[0].file.bytes, files[0].file.length, files[1].file.bytes, files[1].file.length);
+    if (say_json)
+        print_offer_json(files, offered);
+    else
+        print_files(files);
+    if (offered.number != 0) {
+        say_json = false;
+        return refuse(offered.number, "%s", "what is wrong with each file is said above");
+    }
+    if (!say_json)
+        print_offer(files, offered);
+    return write_code(out, &files[offered.file - 1], offered);
+}

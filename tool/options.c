@@ -1,0 +1,126 @@
+#include "options.h"
+
+#include "exits.h"
+#include "undalisho.h"
+
+#include <errno.h>
+#include <stdarg.h>
+#include <stdio.h>
+#include <stdlib.h>
+#include <string.h>
+
+const command *current_command;
+
+int misuse(const char *format, ...)
+{
+    va_list args;
+    va_start(args, format);
+    fprintf(stderr, "undalisho: ");
+    vfprintf(stderr, format, args);
+    va_end(args);
+    if (current_command)
+        fprintf(stderr, "\nusage: undalisho %s %s", current_command->name, current_command->usage);
+    fprintf(stderr, "\n  next: 'undalisho help%s%s' says more\n", current_command ? " " : "",
+            current_command ? current_command->name : "");
+    return MISUSED;
+}
+
+/* A number in decimal, or in hexadecimal after 0x. */
+static bool read_number(const char *word, unsigned long *number)
+{
+    char *end;
+    if (*word < '0' || *word > '9')
+        return false;
+    bool hexadecimal = word[0] == '0' && (word[1] == 'x' || word[1] == 'X');
+    errno = 0;
+    *number = strtoul(word, &end, hexadecimal ? 16 : 10);
+    return errno == 0 && *end == 0 && end != word;
+}
+
+/* Whether a word is this option, as "--ram" or "--ram=VALUE"; `value` is then NULL or the value. */
+static bool is_option(const char *word, const char *name, const char **value)
+{
+    size_t length = strlen(name);
+    if (strncmp(word, name, length) != 0)
+        return false;
+    *value = word[length] == '=' ? word + length + 1 : NULL;
+    return word[length] == 0 || *value;
+}
+
+static const option *find_option(const option *options, const char *word, const char **value)
+{
+    for (; options->name; options++)
+        if (is_option(word, options->name, value))
+            return options;
+    return NULL;
+}
+
+static bool set_option(const option *o, const char *value)
+{
+    if (o->kind == WORD)
+        *(const char **)o->value = value;
+    else if (!read_number(value, o->value)) {
+        misuse("%s wants a number (decimal, or hexadecimal after 0x), not '%s'", o->name, value);
+        return false;
+    }
+    return true;
+}
+
+/* Reads the option at words[*at]; a value that is a word of its own is passed over too. */
+static bool read_option(int count, char **words, int *at, const option *options)
+{
+    const char *value = NULL;
+    const option *o = find_option(options, words[*at], &value);
+    if (!o) {
+        misuse("there is no option '%s'", words[*at]);
+        return false;
+    }
+    if (o->kind == FLAG) {
+        if (value)
+            misuse("%s has no value", o->name);
+        else
+            *(bool *)o->value = true;
+        return !value;
+    }
+    if (!value && *at + 1 == count) {
+        misuse("%s wants a value", o->name);
+        return false;
+    }
+    return set_option(o, value ? value : words[++*at]);
+}
+
+int read_options(int count, char **words, const option *options, int least, int most)
+{
+    int plain = 0;
+    bool reading = true;
+    for (int at = 0; at < count; at++) {
+        bool is_word = !reading || words[at][0] != '-' || words[at][1] == 0;
+        if (is_word)
+            words[plain++] = words[at];
+        else if (strcmp(words[at], "--") == 0)
+            reading = false;
+        else if (!read_option(count, words, &at, options))
+            return -1;
+    }
+    if (plain >= least && plain <= most)
+        return plain;
+    if (plain > most)
+        misuse("'%s' is one word too many", words[most]);
+    else
+        misuse("something is missing");
+    return -1;
+}
+
+bool read_kind(const char *word, uint32_t *kind)
+{
+    if (!word) {
+        misuse("--kind is missing: p for DA1453x, e for DA1458x");
+        return false;
+    }
+    if (strcmp(word, "p") != 0 && strcmp(word, "e") != 0) {
+        misuse("--kind is p (DA1453x) or e (DA1458x), not '%s'", word);
+        return false;
+    }
+    *kind = *word == 'p' ? UND_KIND_P : UND_KIND_E;
+    return true;
+}

@@ -1,0 +1,186 @@
+/* undalisho play: the program is the monitor, until code runs. */
+#include "commands.h"
+#include "exits.h"
+#include "monitor.h"
+#include "options.h"
+#include "say.h"
+#include "signals.h"
+
+#include <errno.h>
+#include <stdio.h>
+#include <string.h>
+#include <sys/stat.h>
+#include <unistd.h>
+
+enum { USUAL_WORK = 65535, USUAL_FLASH = 1048576, USUAL_BAUD = 115200 };
+
+typedef struct {
+    const char *kind, *flash, *save_ram, *port, *link;
+    unsigned long ram, work, baud;
+} play_options;
+
+static bool read_play_options(int count, char **words, play_options *o, monitor *m)
+{
+    const option options[] = {
+        {"--kind", WORD, &o->kind},
+        {"--then-uartboot", FLAG, &m->then_uartboot},
+        {"--ram", NUMBER, &o->ram},
+        {"--flash", WORD, &o->flash},
+        {"--work", NUMBER, &o->work},
+        {"--save-ram", WORD, &o->save_ram},
+        {"--port", WORD, &o->port},
+        {"--baud", NUMBER, &o->baud},
+        {"--link", WORD, &o->link},
+        {"--log", WORD, &m->log.path},
+        {"--quiet", FLAG, &m->log.quiet},
+        {"--json", FLAG, &say_json},
+        {NULL, FLAG, NULL},
+    };
+    *o = (play_options){.ram = UND_RAM_MAX, .work = USUAL_WORK, .baud = USUAL_BAUD};
+    return read_options(count, words, options, 1, 1) == 1;
+}
+
+static bool is_sound(const char *what, const play_options *o, monitor *m)
+{
+    bool rom = strcmp(what, "rom") == 0;
+    m->kind = UND_KIND_UARTBOOT;
+    if (!rom && strcmp(what, "uartboot") != 0) {
+        misuse("it plays 'rom' or 'uartboot', not '%s'", what);
+        return false;
+    }
+    if (rom && !read_kind(o->kind, &m->kind))
+        return false;
+    if (!rom && (o->kind || m->then_uartboot)) {
+        misuse("--kind and --then-uartboot go with 'play rom'");
+        return false;
+    }
+    if (!line_has_baud(o->baud)) {
+        misuse("this system has no baud rate %lu", o->baud);
+        return false;
+    }
+    if (o->port && o->link) {
+        misuse("--link goes with a pseudo-terminal, not with --port");
+        return false;
+    }
+    return true;
+}
+
+static content filled(size_t length, int byte)
+{
+    content c = {memory_of(length), length};
+    memset(c.bytes, byte, length);
+    return c;
+}
+
+/* Zeros, so many; where that is more than `most`, one more than it, which the library refuses as well. */
+static content zeros(unsigned long length, size_t most)
+{
+    return filled(length > most ? most + 1 : length, 0);
+}
+
+/* Lends RAM, work buffer and flash. Gives DONE, or the exit code after it has said what is wrong. */
+static int lend_memories(monitor *m, const play_options *o)
+{
+    session *s = &m->session;
+    s->ram = zeros(o->ram, UND_RAM_MAX);
+    s->work = zeros(o->work, UND_WORK_MAX);
+    errno = 0;
+    if (!o->flash)
+        s->flash = filled(USUAL_FLASH, 0xFF);
+    else if (!kept_open(&m->flash_file, o->flash, UND_FLASH_MAX, &s->flash))
+        return errno == EBUSY
+                   ? fail("end the other player, or take a copy of the file", "another player keeps %s", o->flash)
+                   : fail("name a file with the flash's bytes that you may read and write", "%s cannot be opened",
+                          o->flash);
+    m->flash_kept = filled(s->flash.length, 0);
+    memcpy(m->flash_kept.bytes, s->flash.bytes, s->flash.length);
+    uint32_t number = monitor_refusal(m);
+    return number ? refuse(number, "RAM %lu bytes, work buffer %lu, flash %zu%s", o->ram, o->work, s->flash.length,
+                           s->flash.length > UND_FLASH_MAX ? " or more" : "")
+                  : DONE;
+}
+
+/* Points a link at the pseudo-terminal; an older link is replaced, any other file stays. */
+static bool make_link(const char *path, const char *target)
+{
+    struct stat there;
+    if (lstat(path, &there) == 0 && S_ISLNK(there.st_mode))
+        unlink(path);
+    return symlink(target, path) == 0;
+}
+
+/* Removes the link, unless another program has taken it over. */
+static void remove_link(const char *path, const char *target)
+{
+    char there[256] = {0};
+    if (path && readlink(path, there, sizeof there - 1) > 0 && strcmp(there, target) == 0)
+        unlink(path);
+}
+
+static int open_line(monitor *m, const play_options *o)
+{
+    errno = 0;
+    if (o->port && !line_open(&m->line, o->port, o->baud))
+        return fail("plug the adapter in, see which device it is, and that you may use it", "%s cannot be opened",
+                    o->port);
+    if (!o->port && !line_make(&m->line))
+        return fail("use --port DEVICE", "a pseudo-terminal cannot be made");
+    if (o->link && !make_link(o->link, m->line.path))
+        return fail("give --link a path that is free", "%s cannot be made", o->link);
+    return DONE;
+}
+
+static int open_log(monitor *m)
+{
+    errno = 0;
+    m->log.json = say_json;
+    if (!log_open(&m->log))
+        return fail("give --log a file that you may write to", "%s cannot be written", m->log.path);
+    return DONE;
+}
+
+/* Where a host finds the monitor: said even with --quiet. */
+static void announce(monitor *m, const char *what)
+{
+    bool quiet = m->log.quiet;
+    m->log.quiet = false;
+    log_note(&m->log, "line", m->line.path, "playing %s on %s", what, m->line.path);
+    m->log.quiet = quiet;
+    if (!m->flash_file.path && (m->then_uartboot || m->kind == UND_KIND_UARTBOOT))
+        log_note(&m->log, "flash-in-memory", NULL, "no --flash FILE: a blank flash of %zu bytes, gone at the end",
+                 m->session.flash.length);
+}
+
+static int save_ram(const monitor *m, const char *path)
+{
+    errno = 0;
+    if (path && !write_file(path, m->session.ram.bytes, m->session.ram.length))
+        return fail("give --save-ram a place with room that you may write to", "%s cannot be written", path);
+    return DONE;
+}
+
+int run_play(int count, char **words)
+{
+    static monitor m;
+    play_options o;
+    if (!read_play_options(count, words, &o, &m) || !is_sound(words[0], &o, &m))
+        return MISUSED;
+    int code = lend_memories(&m, &o);
+    if (code == DONE)
+        code = open_log(&m);
+    if (code == DONE && !signals_catch())
+        code = fail("try again", "signals cannot be caught");
+    if (code == DONE)
+        code = open_line(&m, &o);
+    if (code != DONE)
+        return code;
+    announce(&m, words[0]);
+    code = monitor_play(&m);
+    int saved = save_ram(&m, o.save_ram);
+    remove_link(o.link, m.line.path);
+    log_close(&m.log);
+    kept_close(&m.flash_file);
+    if (code == DONE)
+        code = saved;
+    return code == DONE && m.log.failed ? FAILED : code;
+}

@@ -1,0 +1,87 @@
+#include "replace.h"
+
+#include "files.h"
+#include "text.h"
+
+#include <errno.h>
+#include <fcntl.h>
+#include <stdio.h>
+#include <stdlib.h>
+#include <string.h>
+#include <sys/stat.h>
+#include <unistd.h>
+
+static size_t folder_length(const char *path)
+{
+    const char *slash = strrchr(path, '/');
+    return slash ? (size_t)(slash - path) + 1 : 0;
+}
+
+/* The name beside a file under which its new content is written. */
+static char *new_name(const char *path)
+{
+    text t = {0};
+    size_t folder = folder_length(path);
+    text_add_bytes(&t, path, folder);
+    text_add(&t, ".%s.undalisho-new", path + folder);
+    return t.chars;
+}
+
+/* Makes sure that the name in the folder is on the disk. Some file systems can't; then there is nothing to be done. */
+static void sync_folder(const char *path)
+{
+    text t = {0};
+    text_add_bytes(&t, path, folder_length(path));
+    text_add(&t, ".");
+    int fd = open(t.chars, O_RDONLY | O_CLOEXEC);
+    if (fd >= 0) {
+        fsync(fd);
+        close(fd);
+    }
+    text_free(&t);
+}
+
+bool lock_file(int fd)
+{
+    struct flock whole = {.l_type = F_WRLCK, .l_whence = SEEK_SET};
+    if (fcntl(fd, F_SETLK, &whole) == 0)
+        return true;
+    if (errno == EAGAIN || errno == EACCES)
+        errno = EBUSY;
+    return false;
+}
+
+/* Writes the new content under its own name and locks it. Gives the descriptor, or -1. */
+static int write_new(const char *name, mode_t mode, const uint8_t *bytes, size_t length)
+{
+    int fd = open(name, O_RDWR | O_CREAT | O_CLOEXEC | O_NOFOLLOW, mode);
+    if (fd < 0)
+        return -1;
+    if (lock_file(fd) && ftruncate(fd, 0) == 0 && write_all(fd, bytes, length) && fsync(fd) == 0)
+        return fd;
+    int reason = errno;
+    if (reason != EBUSY)
+        unlink(name);
+    close(fd);
+    errno = reason;
+    return -1;
+}
+
+int replace_file(const char *path, mode_t mode, const uint8_t *bytes, size_t length)
+{
+    char *name = new_name(path);
+    int fd = write_new(name, mode, bytes, length);
+    if (fd >= 0 && (fchmod(fd, mode) != 0 || rename(name, path) != 0)) {
+        int reason = errno;
+        unlink(name);
+        close(fd);
+        errno = reason;
+        fd = -1;
+    }
+    int reason = errno;
+    if (fd >= 0)
+        sync_folder(path);
+    free(name);
+    errno = reason;
+    return fd;
+}

@@ -1,0 +1,18 @@
+/* New content in a file's place, so that at any moment the old or the new file is there. */
+#ifndef REPLACE_H
+#define REPLACE_H
+
+#include <stdbool.h>
+#include <stddef.h>
+#include <stdint.h>
+#include <sys/types.h>
+
+/* Writes the new content beside the file, on the disk too, and then gives it the file's name. Gives the descriptor of
+   the new file, which is locked; or -1, and the old file stays. On failure errno says why; EBUSY: another program does
+   the same. */
+int replace_file(const char *path, mode_t mode, const uint8_t *bytes, size_t length);
+
+/* Locks a whole file. On failure errno says why; EBUSY: another program has locked it. */
+bool lock_file(int fd);
+
+#endif

@@ -1,0 +1,71 @@
+#include "signals.h"
+
+#include <errno.h>
+#include <fcntl.h>
+#include <signal.h>
+#include <unistd.h>
+
+static volatile sig_atomic_t stop, reset;
+static int ends[2] = {-1, -1};
+
+static void on_signal(int number)
+{
+    int reason = errno;
+    if (number == SIGUSR1)
+        reset = 1;
+    else
+        stop = 1;
+    if (write(ends[1], "", 1) < 0) {
+        /* the pipe is full: it is readable already */
+    }
+    errno = reason;
+}
+
+static bool prepare(int fd)
+{
+    return fcntl(fd, F_SETFL, O_NONBLOCK) == 0 && fcntl(fd, F_SETFD, FD_CLOEXEC) == 0;
+}
+
+bool signals_catch(void)
+{
+    static const int numbers[] = {SIGINT, SIGTERM, SIGHUP, SIGUSR1};
+    struct sigaction action = {.sa_handler = on_signal};
+    if (pipe(ends) != 0 || !prepare(ends[0]) || !prepare(ends[1]))
+        return false;
+    for (unsigned i = 0; i < sizeof numbers / sizeof *numbers; i++)
+        if (sigaction(numbers[i], &action, NULL) != 0)
+            return false;
+    return true;
+}
+
+int signals_fd(void)
+{
+    return ends[0];
+}
+
+/* Takes the bytes that the handler left. */
+static void drain(void)
+{
+    char bytes[64];
+    while (ends[0] >= 0 && read(ends[0], bytes, sizeof bytes) > 0) {
+    }
+}
+
+bool signals_stop(void)
+{
+    return stop;
+}
+
+bool signals_reset(void)
+{
+    if (!reset)
+        return false;
+    reset = 0;
+    drain();
+    return true;
+}
+
+bool signals_pending(void)
+{
+    return stop || reset;
+}

@@ -1,0 +1,22 @@
+/* Signals, as a descriptor that can be waited for. */
+#ifndef SIGNALS_H
+#define SIGNALS_H
+
+#include <stdbool.h>
+
+/* From now on SIGINT, SIGTERM and SIGHUP ask for the end, and SIGUSR1 presses the reset button. */
+bool signals_catch(void);
+
+/* Readable once a signal has come. */
+int signals_fd(void);
+
+/* Whether the end was asked for. */
+bool signals_stop(void);
+
+/* Whether the reset button was pressed since this was last asked. */
+bool signals_reset(void);
+
+/* Whether one of the two above is waiting. */
+bool signals_pending(void);
+
+#endif

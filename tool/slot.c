@@ -1,0 +1,30 @@
+/* undalisho slot: the slot that will start, and both images. */
+#include "commands.h"
+#include "exits.h"
+#include "options.h"
+#include "say.h"
+#include "view.h"
+
+#include <stdio.h>
+
+int run_slot(int count, char **words)
+{
+    unsigned long header = USUAL_HEADER;
+    const option options[] = {{"--header", NUMBER, &header}, {"--json", FLAG, &say_json}, {NULL, FLAG, NULL}};
+    flash_view v;
+    if (read_options(count, words, options, 1, 1) < 0)
+        return MISUSED;
+    int code = view_file(&v, words[0], header);
+    if (code != DONE)
+        return code;
+    if (say_json) {
+        print_view_json(&v);
+        say_json = false;
+    } else {
+        printf("%s: %zu bytes\n", v.path, v.flash.length);
+        print_images(&v);
+        if (v.selected.number == 0)
+            print_verdict(&v);
+    }
+    return v.selected.number == 0 ? DONE : refuse(v.selected.number, "%s, header at 0x%05X", v.path, v.header);
+}

@@ -1,0 +1,183 @@
+#include "story.h"
+
+#include "words.h"
+
+#include <stdlib.h>
+#include <string.h>
+
+/* No part of the flow has more bytes than RAM or a payload may have. */
+enum { MOST_BYTES = UND_RAM_MAX };
+
+static const char *const part_names[] = {
+    [GREETING] = "greeting",
+    [HEADER] = "header",
+    [HEADER_ANSWER] = "header-accepted",
+    [CODE] = "code",
+    [PAYLOAD] = "payload",
+    [CHECKSUM] = "checksum",
+    [GO] = "acknowledgement",
+    [ANSWER_LENGTH] = "answer-length",
+    [ANSWER_GO] = "answer-wanted",
+    [ANSWER] = "answer",
+    [ANSWER_CRC] = "answer-checksum",
+    [ANSWER_END] = "answer-accepted",
+    [REFUSAL] = "refusal",
+    [RUNNING] = "running",
+};
+
+void story_begin(story *s, event_log *log)
+{
+    *s = (story){.log = log, .bytes = memory_of(MOST_BYTES)};
+}
+
+static bool is_uartboot(const uint32_t *record)
+{
+    return record[UND_RECORD_KIND] == UND_KIND_UARTBOOT;
+}
+
+static void add_reason(text *t, const char *before, uint32_t reason)
+{
+    const meaning *m = meaning_of(reason);
+    text_add(t, "%srefused, reason %u: %s; %s", before, reason, m->what, m->next);
+}
+
+static void add_header(text *t, const uint32_t *after)
+{
+    uint32_t length = after[UND_RECORD_LENGTH];
+    if (!is_uartboot(after))
+        text_add(t, "header: code of %u bytes", length);
+    else if (length == 0)
+        text_add(t, "header: %s, no payload", opcode_name(after[UND_RECORD_OPCODE]));
+    else
+        text_add(t, "header: %s, %u bytes", opcode_name(after[UND_RECORD_OPCODE]), length);
+}
+
+static void add_told_payload(text *t, const story *s)
+{
+    uint32_t opcode = s->first[UND_RECORD_OPCODE];
+    text_add(t, "payload: %s, ", opcode_name(opcode));
+    add_payload(t, opcode, s->bytes, s->count);
+}
+
+/* What follows once a command was carried out. */
+static void add_outcome(text *t, uint32_t opcode, const uint32_t *after)
+{
+    part next = phase_of(after).part;
+    if (next == RUNNING)
+        text_add(t, "code runs at 0x%08X", is_uartboot(after) ? after[UND_RECORD_HELD] : UND_RAM_FIRST);
+    else if (next == ANSWER_LENGTH)
+        text_add(t, "%s, an answer follows", opcode_name(opcode));
+    else
+        text_add(t, "%s is done", opcode_name(opcode));
+}
+
+static bool is_refused(const story *s, const uint32_t *after)
+{
+    part told = phase_of(s->first).part, next = phase_of(after).part;
+    bool waits_for_ack = told == GO || told == ANSWER_GO;
+    return (told != REFUSAL && next == REFUSAL) || (waits_for_ack && s->bytes[s->count - 1] != UND_LINE_ACK);
+}
+
+/* What the part's bytes mean, where the flow goes on. */
+static void add_accepted(text *t, const story *s, const uint32_t *after)
+{
+    bool uartboot = is_uartboot(after);
+    switch (phase_of(s->first).part) {
+    case GREETING:
+        text_add(t, uartboot ? "greeting: uartboot waits for a command" : "greeting: the boot ROM waits for code");
+        break;
+    case HEADER: add_header(t, after); break;
+    case HEADER_ANSWER:
+        text_add(t, "header accepted");
+        if (uartboot && phase_of(after).part != PAYLOAD) {
+            text_add(t, ": ");
+            add_outcome(t, s->first[UND_RECORD_OPCODE], after);
+        }
+        break;
+    case CODE: text_add(t, "code: %zu bytes, in RAM from 0x%08X on", s->count, UND_RAM_FIRST); break;
+    case PAYLOAD: add_told_payload(t, s); break;
+    case CHECKSUM: text_add(t, uartboot ? "payload accepted, with its CRC-16" : "checksum: the XOR of the code"); break;
+    case GO:
+        text_add(t, "acknowledged: ");
+        add_outcome(t, s->first[UND_RECORD_OPCODE], after);
+        break;
+    case ANSWER_LENGTH: text_add(t, "answer: %u bytes", after[UND_RECORD_LENGTH]); break;
+    case ANSWER_GO: text_add(t, "answer wanted"); break;
+    case ANSWER: text_add(t, "answer to %s", opcode_name(s->first[UND_RECORD_OPCODE])); break;
+    case ANSWER_CRC: text_add(t, "CRC-16 of the answer: right"); break;
+    case ANSWER_END: text_add(t, "answer accepted: %s is done", opcode_name(s->first[UND_RECORD_OPCODE])); break;
+    case REFUSAL: text_add(t, "refusal: %s", meaning_of(s->first[UND_RECORD_REASON])->what); break;
+    case RUNNING: break;
+    }
+}
+
+static void tell(story *s, const char *name, uint32_t reason, const text *words)
+{
+    sender from = phase_of(s->first).sends ? FROM_CHIP : FROM_HOST;
+    log_event(s->log, &(event){from, name, s->bytes, s->count, reason, words->chars, NULL});
+    s->count = 0;
+}
+
+static const char *reason_prefix(part told, uint8_t last)
+{
+    if (told == GO && last == UND_LINE_ACK)
+        return "acknowledged, then ";
+    return told == PAYLOAD ? "; " : told == HEADER ? "header " : "";
+}
+
+static void tell_part(story *s, const uint32_t *after)
+{
+    text t = {0};
+    uint32_t reason = 0;
+    part told = phase_of(s->first).part;
+    if (!is_refused(s, after)) {
+        add_accepted(&t, s, after);
+    } else {
+        reason = after[UND_RECORD_REASON];
+        if (told == PAYLOAD)
+            add_told_payload(&t, s);
+        add_reason(&t, reason_prefix(told, s->bytes[s->count - 1]), reason);
+    }
+    tell(s, part_names[told], reason, &t);
+    text_free(&t);
+}
+
+void story_rest(story *s)
+{
+    if (s->count == 0 || !s->dropped)
+        return;
+    text t = {0};
+    text_add(&t, "dropped: a command begins with another byte");
+    tell(s, "dropped", 0, &t);
+    text_free(&t);
+}
+
+void story_turn(story *s, const uint32_t before[UND_RECORD_WORDS], const uint32_t after[UND_RECORD_WORDS],
+                const uint8_t *bytes, size_t count)
+{
+    if (count == 0)
+        return;
+    bool dropped = phase_of(before).idle && phase_of(after).idle;
+    if (!dropped)
+        story_rest(s);
+    s->dropped = dropped;
+    if (s->count == 0)
+        memcpy(s->first, before, sizeof s->first);
+    size_t room = MOST_BYTES - s->count;
+    memcpy(s->bytes + s->count, bytes, count < room ? count : room);
+    s->count += count < room ? count : room;
+    if (phase_of(after).part != phase_of(s->first).part)
+        tell_part(s, after);
+}
+
+void story_end(story *s)
+{
+    if (s->count > 0) {
+        text t = {0};
+        text_add(&t, "%s, cut short after %zu bytes", part_names[phase_of(s->first).part], s->count);
+        tell(s, "cut-short", 0, &t);
+        text_free(&t);
+    }
+    free(s->bytes);
+    s->bytes = NULL;
+}

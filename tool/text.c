@@ -1,0 +1,110 @@
+#include "text.h"
+
+#include "exits.h"
+
+#include <stdarg.h>
+#include <stdbool.h>
+#include <stdio.h>
+#include <stdlib.h>
+#include <string.h>
+
+void *memory_of(size_t bytes)
+{
+    void *memory = calloc(bytes ? bytes : 1, 1);
+    if (!memory) {
+        fprintf(stderr, "undalisho: there is no memory for %zu bytes\n  next: close other programs, then try again\n",
+                bytes);
+        exit(FAILED);
+    }
+    return memory;
+}
+
+static void make_room(text *t, size_t more)
+{
+    if (t->room - t->length > more)
+        return;
+    size_t room = 2 * (t->length + more) + 64;
+    char *chars = memory_of(room);
+    if (t->length)
+        memcpy(chars, t->chars, t->length);
+    free(t->chars);
+    t->chars = chars;
+    t->room = room;
+}
+
+void text_add_bytes(text *t, const char *bytes, size_t count)
+{
+    make_room(t, count);
+    memcpy(t->chars + t->length, bytes, count);
+    t->length += count;
+    t->chars[t->length] = 0;
+}
+
+void text_add(text *t, const char *format, ...)
+{
+    va_list args, again;
+    va_start(args, format);
+    va_copy(again, args);
+    int count = vsnprintf(NULL, 0, format, args);
+    va_end(args);
+    make_room(t, count > 0 ? (size_t)count : 0);
+    if (count > 0)
+        vsnprintf(t->chars + t->length, (size_t)count + 1, format, again);
+    t->length += count > 0 ? (size_t)count : 0;
+    va_end(again);
+}
+
+/* How many bytes the character has that begins a text in UTF-8; 0 where none does. */
+static size_t character_length(const unsigned char *bytes, size_t count)
+{
+    size_t length = bytes[0] < 0x80   ? 1
+                    : bytes[0] < 0xC2 ? 0
+                    : bytes[0] < 0xE0 ? 2
+                    : bytes[0] < 0xF0 ? 3
+                    : bytes[0] < 0xF5 ? 4
+                                      : 0;
+    if (length > count)
+        return 0;
+    for (size_t i = 1; i < length; i++)
+        if ((bytes[i] & 0xC0) != 0x80)
+            return 0;
+    bool outside = (bytes[0] == 0xE0 && bytes[1] < 0xA0) || (bytes[0] == 0xED && bytes[1] > 0x9F) ||
+                   (bytes[0] == 0xF0 && bytes[1] < 0x90) || (bytes[0] == 0xF4 && bytes[1] > 0x8F);
+    return length > 1 && outside ? 0 : length;
+}
+
+void text_add_json(text *t, const char *bytes, size_t count)
+{
+    text_add_bytes(t, "\"", 1);
+    for (size_t i = 0; i < count;) {
+        unsigned char c = (unsigned char)bytes[i];
+        size_t length = character_length((const unsigned char *)bytes + i, count - i);
+        if (c == '"' || c == '\\')
+            text_add(t, "\\%c", c);
+        else if (length == 0 || c < 0x20 || c == 0x7F)
+            text_add(t, "\\u%04x", c);
+        else
+            text_add_bytes(t, bytes + i, length);
+        i += length ? length : 1;
+    }
+    text_add_bytes(t, "\"", 1);
+}
+
+void text_add_hex(text *t, const uint8_t *bytes, size_t count, const char *between)
+{
+    for (size_t i = 0; i < count; i++)
+        text_add(t, "%s%02X", i ? between : "", bytes[i]);
+}
+
+void text_clear(text *t)
+{
+    t->length = 0;
+    if (t->room)
+        t->chars[0] = 0;
+}
+
+void text_free(text *t)
+{
+    free(t->chars);
+    *t = (text){NULL, 0, 0};
+}

@@ -1,0 +1,34 @@
+/* Text that grows. */
+#ifndef TEXT_H
+#define TEXT_H
+
+#include <stddef.h>
+#include <stdint.h>
+
+typedef struct {
+    char *chars; /* ends with a zero byte once something was added, if only "" */
+    size_t length, room;
+} text;
+
+#if defined(__GNUC__)
+#define LIKE_PRINTF(words, first) __attribute__((format(printf, words, first)))
+#else
+#define LIKE_PRINTF(words, first)
+#endif
+
+void text_add(text *t, const char *format, ...) LIKE_PRINTF(2, 3);
+void text_add_bytes(text *t, const char *bytes, size_t count);
+
+/* A string in quotes as JSON has it; bytes that are not UTF-8 text are escaped as they stand. */
+void text_add_json(text *t, const char *bytes, size_t count);
+
+/* Bytes in hexadecimal, with `between` between them. */
+void text_add_hex(text *t, const uint8_t *bytes, size_t count, const char *between);
+
+void text_clear(text *t);
+void text_free(text *t);
+
+/* Memory of so many zero bytes; never NULL. The program ends where there is none. */
+void *memory_of(size_t bytes);
+
+#endif

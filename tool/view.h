@@ -1,0 +1,39 @@
+/* What the library says of a flash: the product header, both images, the slot that will start. */
+#ifndef VIEW_H
+#define VIEW_H
+
+#include "files.h"
+#include "text.h"
+#include "undalisho.h"
+
+/* Where the SDK's bootloader expects the product header (source 004). */
+enum { USUAL_HEADER = 0x1F000 };
+
+typedef struct {
+    const char *path;
+    content flash;
+    uint32_t header;
+    und_product product;
+    und_selected selected;
+    uint32_t offsets[2];
+    und_image images[2]; /* only where the product header is good */
+} flash_view;
+
+void view_of(flash_view *v, const char *path, content flash, uint32_t header);
+
+/* Reads a flash file and the library's answers. Gives DONE, or the exit code after it has said what is wrong. */
+int view_file(flash_view *v, const char *path, unsigned long header);
+
+/* A version field as people write it; in quotes, with a remark, where its text is malformed. */
+void add_version(text *t, const uint8_t *field);
+
+/* An image in a line: "id 9, version 1.9, 4096 bytes, valid". */
+void add_image(text *t, const uint8_t *memory, const und_image *image);
+void add_image_json(text *t, const uint8_t *memory, const und_image *image);
+
+/* The table of images, and the slot that will start, on standard output; or why there is none. */
+void print_images(const flash_view *v);
+void print_verdict(const flash_view *v);
+void print_view_json(const flash_view *v);
+
+#endif

@@ -1,0 +1,124 @@
+#include "words.h"
+
+#include "undalisho.h"
+
+#include <stddef.h>
+#include <string.h>
+
+static const meaning numbers[] = {
+    {1, "the work buffer has a length that it may not have", "give --work a number from 64 to 65535"},
+    {2, "the RAM has a length that it may not have", "give --ram a number from 1 to 131072"},
+    {3, "the flash has a length that it may not have",
+     "use a file of whole sectors: a multiple of 4096 bytes, at least 4096, at most 4194304"},
+    {4, "the session's record is unsound", "start the session again"},
+    {11, "unknown opcode", "look up the opcode; the host asked for something that uartboot here does not have"},
+    {12, "payload length that the opcode does not have", "check the length in the header against the command"},
+    {13, "payload longer than the work buffer", "send smaller pieces, or play with a larger --work"},
+    {14, "verify byte neither 0 nor 1", "send 0 (do not compare) or 1 (compare)"},
+    {15, "count or size is 0", "ask for at least one byte"},
+    {16, "range not in its memory", "check address and length against the size of RAM or flash"},
+    {17, "answer longer than the work buffer", "ask for fewer bytes, or play with a larger --work"},
+    {18, "flash differs from the data", "erase the sectors first: a store can only clear bits; what was stored stays"},
+    {19, "the host's CRC of the answer differs", "ask again; if it stays so, look at the cable"},
+    {20, "not acknowledged by the host",
+     "send the command again; it was not carried out if its CRC was not acknowledged"},
+    {31, "a header that does not begin with 01", "start again at the greeting; check kind and baud rate"},
+    {32, "code length 0", "load a code that is not empty"},
+    {33, "code longer than the RAM", "load a smaller code, or play with a larger --ram"},
+    {34, "checksum not acknowledged by the host; the code stays in RAM and does not run", "load again"},
+    {41, "the code is empty", "name a code file that has bytes in it"},
+    {42, "the code is too long for this kind of chip",
+     "use a smaller code; kind p takes up to 65535 bytes, kind e (DA1458x) up to 131071"},
+    {43, "the output is shorter than the frame", "report this: the program has lent too little room"},
+    {51, "the product header does not lie wholly in the flash", "give its place with --header OFFSET"},
+    {52, "there is no product header at this place",
+     "give its place with --header OFFSET; if it is right, the flash was never provisioned"},
+    {53, "neither image is valid",
+     "write a good image to one of the slots; the lines above say what is wrong with each"},
+    {61, "a version's text is malformed",
+     "write one to four numbers from 0 to 65535 with dots between them and no leading zero, in at most 16 characters"},
+    {62, "the installed file is not a valid image", "take another copy of the installed image"},
+    {63, "the candidate is not a valid image", "take another copy of the candidate"},
+};
+
+static const meaning rules[] = {
+    {0, "valid", ""},
+    {UND_RULE_HEADER, "its header does not lie wholly there", ""},
+    {UND_RULE_MARK, "there is no image header", ""},
+    {UND_RULE_FLAG, "its flag does not say valid", ""},
+    {UND_RULE_SIZE, "its size is not one that code may have", ""},
+    {UND_RULE_REACH, "its code reaches past the end", ""},
+    {UND_RULE_ENCRYPTED, "it is encrypted", ""},
+    {UND_RULE_CRC, "the CRC-32 of its code is not the header's", ""},
+};
+
+/* The commands. In what a payload says, @n is the count, @a the RAM address, @o the flash offset, @v the verify byte.
+ */
+static const meaning names[] = {
+    {0x01, "Write", "@n bytes to RAM at @a"},
+    {0x02, "Read", "@n bytes of RAM at @a"},
+    {0x03, "Copy to QSPI", "@n bytes of RAM at @a to flash at @o"},
+    {0x04, "Erase QSPI", "@n bytes of flash at @o, with all of each sector"},
+    {0x05, "Run", "code in RAM at @a"},
+    {0x08, "Read QSPI", "@n bytes of flash at @o"},
+    {0x0B, "Get version", ""},
+    {0x0C, "Chip erase QSPI", ""},
+    {0x12, "QSPI direct write", "@n bytes to flash at @o, verify @v"},
+};
+
+static const meaning unknown = {0, "unknown to this program", "look it up in undalisho.h"};
+
+static const meaning *find(const meaning *table, size_t count, uint32_t number)
+{
+    for (size_t i = 0; i < count; i++)
+        if (table[i].number == number)
+            return &table[i];
+    return &unknown;
+}
+
+#define FIND(table, number) find(table, sizeof table / sizeof *table, number)
+
+const meaning *meaning_of(uint32_t number)
+{
+    return FIND(numbers, number);
+}
+
+void text_add_meaning(text *t, const meaning *m)
+{
+    text_add(t, ",\"words\":");
+    text_add_json(t, m->what, strlen(m->what));
+    text_add(t, ",\"next\":");
+    text_add_json(t, m->next, strlen(m->next));
+}
+
+const meaning *rule_meaning(uint32_t rule)
+{
+    return FIND(rules, rule);
+}
+
+const char *opcode_name(uint32_t opcode)
+{
+    return FIND(names, opcode)->what;
+}
+
+/* A number of a payload, by the letter behind '@'. */
+static void add_number(text *t, char letter, const und_command *c)
+{
+    switch (letter) {
+    case 'n': text_add(t, "%u", c->count); break;
+    case 'a': text_add(t, "0x%08X", c->address); break;
+    case 'o': text_add(t, "0x%05X", c->offset); break;
+    case 'v': text_add(t, "%u", c->verify); break;
+    }
+}
+
+void add_payload(text *t, uint32_t opcode, const uint8_t *payload, size_t length)
+{
+    und_command c = und_read_command(opcode, payload, length);
+    for (const char *sign = FIND(names, opcode)->next; *sign; sign++) {
+        if (*sign == '@')
+            add_number(t, *++sign, &c);
+        else
+            text_add_bytes(t, sign, 1);
+    }
+}

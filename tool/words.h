@@ -1,0 +1,30 @@
+/* The library's numbers in words. */
+#ifndef WORDS_H
+#define WORDS_H
+
+#include "text.h"
+
+#include <stdint.h>
+
+typedef struct {
+    uint32_t number;
+    const char *what; /* what it says */
+    const char *next; /* what to do about it */
+} meaning;
+
+/* A refusal's number, or a session's reason; never NULL. */
+const meaning *meaning_of(uint32_t number);
+
+/* ,"words":..,"next":.. as JSON has it. */
+void text_add_meaning(text *t, const meaning *m);
+
+/* The first rule that an image breaks; rule 0 is "valid". */
+const meaning *rule_meaning(uint32_t rule);
+
+/* A command's name. */
+const char *opcode_name(uint32_t opcode);
+
+/* What the payload of a command asks for. */
+void add_payload(text *t, uint32_t opcode, const uint8_t *payload, size_t length);
+
+#endif
