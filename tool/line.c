@@ -12,6 +12,9 @@
 #include <termios.h>
 #include <unistd.h>
 
+/* In milliseconds: how long a host may take to read the last bytes, and how often that is looked at. */
+enum { HOST_READS = 2000, STEP = 10 };
+
 typedef struct {
     unsigned long baud;
     speed_t speed;
@@ -162,6 +165,12 @@ line_event line_write(line *l, const uint8_t *bytes, size_t length, int millisec
 
 void line_drain(line *l)
 {
-    while (tcdrain(l->fd) != 0 && errno == EINTR) {
+    struct pollfd unread = {.fd = l->host_end, .events = POLLIN};
+    if (l->host_end < 0) {
+        while (tcdrain(l->fd) != 0 && errno == EINTR) {
+        }
+        return;
     }
+    for (int waited = 0; waited < HOST_READS && poll(&unread, 1, 0) > 0; waited += STEP)
+        poll(NULL, 0, STEP);
 }

@@ -41,7 +41,8 @@ line_event line_read(line *l, uint8_t *bytes, size_t room, int milliseconds, siz
 /* Writes some of the bytes, as many as the line takes; waits likewise until it takes one. */
 line_event line_write(line *l, const uint8_t *bytes, size_t length, int milliseconds, size_t *count);
 
-/* Waits until all that was written has left. */
+/* Waits until all that was written has left; with a pseudo-terminal of our own until a host has read it, if that is
+   soon: what it has not read is lost when the line is closed. */
 void line_drain(line *l);
 
 #endif

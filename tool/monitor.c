@@ -140,6 +140,8 @@ int monitor_play(monitor *m)
         log_note(&m->log, "uartboot", NULL, "the code is taken to be uartboot, which is played now");
         code = play_session(m, UND_KIND_UARTBOOT, &in);
     }
+    if (code == DONE && !signals_stop())
+        line_drain(&m->line);
     if (code == DONE)
         log_note(&m->log, "end", NULL, signals_stop() ? "stopped" : "code runs: the boot line is done");
     return code;

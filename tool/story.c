@@ -38,18 +38,17 @@ static bool is_uartboot(const uint32_t *record)
 static void add_reason(text *t, const char *before, uint32_t reason)
 {
     const meaning *m = meaning_of(reason);
-    text_add(t, "%srefused, reason %u: %s; %s", before, reason, m->what, m->next);
+    text_add(t, "%srefused, reason %u: %s (next: %s)", before, reason, m->what, m->next);
 }
 
 static void add_header(text *t, const uint32_t *after)
 {
     uint32_t length = after[UND_RECORD_LENGTH];
-    if (!is_uartboot(after))
-        text_add(t, "header: code of %u bytes", length);
-    else if (length == 0)
-        text_add(t, "header: %s, no payload", opcode_name(after[UND_RECORD_OPCODE]));
+    text_add(t, "header: %s, ", is_uartboot(after) ? opcode_name(after[UND_RECORD_OPCODE]) : "code");
+    if (length)
+        add_count(t, length);
     else
-        text_add(t, "header: %s, %u bytes", opcode_name(after[UND_RECORD_OPCODE]), length);
+        text_add(t, "no payload");
 }
 
 static void add_told_payload(text *t, const story *s)
@@ -94,14 +93,21 @@ static void add_accepted(text *t, const story *s, const uint32_t *after)
             add_outcome(t, s->first[UND_RECORD_OPCODE], after);
         }
         break;
-    case CODE: text_add(t, "code: %zu bytes, in RAM from 0x%08X on", s->count, UND_RAM_FIRST); break;
+    case CODE:
+        text_add(t, "code: ");
+        add_count(t, s->count);
+        text_add(t, ", in RAM from 0x%08X on", UND_RAM_FIRST);
+        break;
     case PAYLOAD: add_told_payload(t, s); break;
     case CHECKSUM: text_add(t, uartboot ? "payload accepted, with its CRC-16" : "checksum: the XOR of the code"); break;
     case GO:
         text_add(t, "acknowledged: ");
         add_outcome(t, s->first[UND_RECORD_OPCODE], after);
         break;
-    case ANSWER_LENGTH: text_add(t, "answer: %u bytes", after[UND_RECORD_LENGTH]); break;
+    case ANSWER_LENGTH:
+        text_add(t, "answer: ");
+        add_count(t, after[UND_RECORD_LENGTH]);
+        break;
     case ANSWER_GO: text_add(t, "answer wanted"); break;
     case ANSWER: text_add(t, "answer to %s", opcode_name(s->first[UND_RECORD_OPCODE])); break;
     case ANSWER_CRC: text_add(t, "CRC-16 of the answer: right"); break;
@@ -147,7 +153,7 @@ void story_rest(story *s)
     if (s->count == 0 || !s->dropped)
         return;
     text t = {0};
-    text_add(&t, "dropped: a command begins with another byte");
+    text_add(&t, "dropped: no command begins so");
     tell(s, "dropped", 0, &t);
     text_free(&t);
 }
@@ -174,7 +180,8 @@ void story_end(story *s)
 {
     if (s->count > 0) {
         text t = {0};
-        text_add(&t, "%s, cut short after %zu bytes", part_names[phase_of(s->first).part], s->count);
+        text_add(&t, "%s, cut short after ", part_names[phase_of(s->first).part]);
+        add_count(&t, s->count);
         tell(s, "cut-short", 0, &t);
         text_free(&t);
     }

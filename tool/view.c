@@ -63,7 +63,9 @@ void add_image(text *t, const uint8_t *memory, const und_image *image)
     }
     text_add(t, "id %u, version ", image->id);
     add_version(t, memory + image->version_place);
-    text_add(t, ", %u bytes, %s%s", image->size, image->rule ? "not valid: " : "", rule_meaning(image->rule)->what);
+    text_add(t, ", ");
+    add_count(t, image->size);
+    text_add(t, ", %s%s", image->rule ? "not valid: " : "", rule_meaning(image->rule)->what);
 }
 
 void add_image_json(text *t, const uint8_t *memory, const und_image *image)

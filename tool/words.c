@@ -52,18 +52,19 @@ static const meaning rules[] = {
     {UND_RULE_CRC, "the CRC-32 of its code is not the header's", ""},
 };
 
-/* The commands. In what a payload says, @n is the count, @a the RAM address, @o the flash offset, @v the verify byte.
+/* The commands. In what a payload says, @n is the count of bytes, @a the RAM address, @o the flash offset, @v the
+ * verify byte.
  */
 static const meaning names[] = {
-    {0x01, "Write", "@n bytes to RAM at @a"},
-    {0x02, "Read", "@n bytes of RAM at @a"},
-    {0x03, "Copy to QSPI", "@n bytes of RAM at @a to flash at @o"},
-    {0x04, "Erase QSPI", "@n bytes of flash at @o, with all of each sector"},
+    {0x01, "Write", "@n to RAM at @a"},
+    {0x02, "Read", "@n of RAM at @a"},
+    {0x03, "Copy to QSPI", "@n of RAM at @a to flash at @o"},
+    {0x04, "Erase QSPI", "@n of flash at @o, with all of each sector"},
     {0x05, "Run", "code in RAM at @a"},
-    {0x08, "Read QSPI", "@n bytes of flash at @o"},
+    {0x08, "Read QSPI", "@n of flash at @o"},
     {0x0B, "Get version", ""},
     {0x0C, "Chip erase QSPI", ""},
-    {0x12, "QSPI direct write", "@n bytes to flash at @o, verify @v"},
+    {0x12, "QSPI direct write", "@n to flash at @o, verify @v"},
 };
 
 static const meaning unknown = {0, "unknown to this program", "look it up in undalisho.h"};
@@ -101,11 +102,16 @@ const char *opcode_name(uint32_t opcode)
     return FIND(names, opcode)->what;
 }
 
+void add_count(text *t, size_t count)
+{
+    text_add(t, count == 1 ? "1 byte" : "%zu bytes", count);
+}
+
 /* A number of a payload, by the letter behind '@'. */
 static void add_number(text *t, char letter, const und_command *c)
 {
     switch (letter) {
-    case 'n': text_add(t, "%u", c->count); break;
+    case 'n': add_count(t, c->count); break;
     case 'a': text_add(t, "0x%08X", c->address); break;
     case 'o': text_add(t, "0x%05X", c->offset); break;
     case 'v': text_add(t, "%u", c->verify); break;

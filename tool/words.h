@@ -24,6 +24,9 @@ const meaning *rule_meaning(uint32_t rule);
 /* A command's name. */
 const char *opcode_name(uint32_t opcode);
 
+/* "1 byte", "2 bytes" */
+void add_count(text *t, size_t count);
+
 /* What the payload of a command asks for. */
 void add_payload(text *t, uint32_t opcode, const uint8_t *payload, size_t length);
 
