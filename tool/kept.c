@@ -42,7 +42,7 @@ bool kept_open(kept_file *k, const char *path, size_t most, content *c)
     k->path = realpath(path, NULL);
     if (!k->path)
         return false;
-    k->fd = open_locked(k->path);
+    k->fd = is_replaceable(k->path) ? open_locked(k->path) : -1;
     if (k->fd >= 0 && read_open(k->fd, most, c))
         return true;
     int reason = errno;

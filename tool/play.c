@@ -90,8 +90,9 @@ static int lend_memories(monitor *m, const play_options *o)
     else if (!kept_open(&m->flash_file, o->flash, UND_FLASH_MAX, &s->flash))
         return errno == EBUSY
                    ? fail("end the other player, or take a copy of the file", "another player keeps %s", o->flash)
-                   : fail("name a file with the flash's bytes that you may read and write", "%s cannot be opened",
-                          o->flash);
+                   : fail("name a file with the flash's bytes that you may read and write, in a folder that you may "
+                          "write to",
+                          "%s cannot be opened", o->flash);
     m->flash_kept = filled(s->flash.length, 0);
     memcpy(m->flash_kept.bytes, s->flash.bytes, s->flash.length);
     uint32_t number = monitor_refusal(m);

@@ -27,18 +27,35 @@ static char *new_name(const char *path)
     return t.chars;
 }
 
-/* Makes sure that the name in the folder is on the disk. Some file systems can't; then there is nothing to be done. */
-static void sync_folder(const char *path)
+/* The folder that a file is in. */
+static char *folder_of(const char *path)
 {
     text t = {0};
     text_add_bytes(&t, path, folder_length(path));
     text_add(&t, ".");
-    int fd = open(t.chars, O_RDONLY | O_CLOEXEC);
+    return t.chars;
+}
+
+bool is_replaceable(const char *path)
+{
+    char *folder = folder_of(path);
+    bool may = access(folder, W_OK | X_OK) == 0;
+    int reason = errno;
+    free(folder);
+    errno = reason;
+    return may;
+}
+
+/* Makes sure that the name in the folder is on the disk. Some file systems can't; then there is nothing to be done. */
+static void sync_folder(const char *path)
+{
+    char *folder = folder_of(path);
+    int fd = open(folder, O_RDONLY | O_CLOEXEC);
     if (fd >= 0) {
         fsync(fd);
         close(fd);
     }
-    text_free(&t);
+    free(folder);
 }
 
 bool lock_file(int fd)

@@ -12,6 +12,9 @@
    the same. */
 int replace_file(const char *path, mode_t mode, const uint8_t *bytes, size_t length);
 
+/* Whether the file's folder lets it be replaced. On failure errno says why. */
+bool is_replaceable(const char *path);
+
 /* Locks a whole file. On failure errno says why; EBUSY: another program has locked it. */
 bool lock_file(int fd);
 
