@@ -54,9 +54,11 @@ $(BUILD)/undalisho.pc: undalisho.pc.in force | $(BUILD)
 # POSIX, and its X/Open part for pseudo-terminals.
 STRICT := -std=c99 -D_XOPEN_SOURCE=700 -Wall -Wextra -Wpedantic
 
-$(BUILD)/undalisho: $(wildcard tool/*.c tool/*.h) include/undalisho.h $(ARCHIVE) Makefile | $(BUILD)
+TOOL := tool $(wildcard tool/*/)
+
+$(BUILD)/undalisho: $(wildcard $(TOOL:%=%/*.[ch])) include/undalisho.h $(ARCHIVE) Makefile | $(BUILD)
 	@command -v $(CC) >/dev/null || tests/need gcc libc6-dev
-	$(CC) $(STRICT) $(CFLAGS) -DVERSION='"$(VERSION)"' -Iinclude -Itool $(filter %.c,$^) $(ARCHIVE) $(LDFLAGS) -o $@
+	$(CC) $(STRICT) $(CFLAGS) -DVERSION='"$(VERSION)"' -Iinclude $(TOOL:%=-I%) $(filter %.c,$^) $(ARCHIVE) $(LDFLAGS) -o $@
 
 demo: all
 	@$(BUILD)/undalisho demo

@@ -56,6 +56,10 @@ enum {
  * "1..2" and "1.65536" are malformed.
  */
 
+enum {
+    UND_VERSION_FIELD = 16 /* bytes */
+};
+
 typedef struct {
     uint32_t number;
     uint32_t rank[4];

@@ -90,7 +90,7 @@ static bool give_up(line *l)
 
 bool line_make(line *l)
 {
-    *l = (line){NULL, posix_openpt(O_RDWR | O_NOCTTY), -1, 115200};
+    *l = (line){NULL, posix_openpt(O_RDWR | O_NOCTTY), -1, USUAL_BAUD};
     if (l->fd < 0 || grantpt(l->fd) != 0 || unlockpt(l->fd) != 0)
         return give_up(l);
     const char *name = ptsname(l->fd);

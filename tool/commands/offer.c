@@ -10,7 +10,7 @@
 #include <stdio.h>
 #include <string.h>
 
-enum { LARGEST_FILE = 1 << 26, VERSION_FIELD = 16 };
+enum { LARGEST_FILE = 1 << 26 };
 
 typedef struct {
     const char *role, *path;
@@ -46,7 +46,7 @@ static void print_offer(const offered_file files[2], und_offered offered)
     const uint8_t *new = files[1].file.bytes + files[1].image.version_place;
     static const char *const words[] = {"the candidate's version is lower", "the versions are equal",
                                         "its version is higher"};
-    int32_t order = und_order(new, VERSION_FIELD, old, VERSION_FIELD).order;
+    int32_t order = und_order(new, UND_VERSION_FIELD, old, UND_VERSION_FIELD).order;
     printf("take the %s: %s\n", files[offered.file - 1].role, words[order + 1]);
 }
 

@@ -33,7 +33,7 @@ static void put_code(uint8_t *at, size_t length, uint32_t seed)
 
 static void put_image(uint8_t *at, size_t length, uint8_t id, const char *version)
 {
-    uint8_t field[16] = {0};
+    uint8_t field[UND_VERSION_FIELD] = {0};
     und_image_header header;
     size_t code = length - sizeof header.bytes;
     memcpy(field, version, strlen(version));

@@ -1,10 +1,9 @@
-/* undalisho map: a picture of the flash. */
-#include "map.h"
-
+/* undalisho map: a picture of the flash, a sign for each sector. */
 #include "commands.h"
 #include "exits.h"
 #include "options.h"
 #include "say.h"
+#include "view.h"
 
 #include <stdbool.h>
 #include <stdio.h>
@@ -85,7 +84,8 @@ static void print_marks(const char *cells, size_t count, uint32_t slot)
     printf("            %s starts\n", marks);
 }
 
-void print_map(const flash_view *v)
+/* On standard output, in colours where that is a terminal. */
+static void print_map(const flash_view *v)
 {
     size_t sectors = v->flash.length / UND_FLASH_SECTOR;
     bool colours = isatty(STDOUT_FILENO) && !getenv("NO_COLOR");

@@ -6,6 +6,9 @@
 #include <stddef.h>
 #include <stdint.h>
 
+/* The speed of a port where none is given (sources 000 and 003). */
+enum { USUAL_BAUD = 115200 };
+
 typedef struct {
     const char *path; /* what a host opens, or the port */
     int fd;

@@ -3,11 +3,12 @@
  * What the chip has to answer, and when it is its turn, comes from a receiver of the library that is fed the same
  * frame: the host sends what that one takes, and waits for what that one sends.
  */
-#include "load.h"
-
 #include "boot.h"
 #include "commands.h"
 #include "exits.h"
+#include "files.h"
+#include "line.h"
+#include "log.h"
 #include "options.h"
 #include "progress.h"
 #include "say.h"
@@ -21,7 +22,16 @@
 #include <time.h>
 #include <unistd.h>
 
-enum { USUAL_BAUD = 115200, USUAL_SECONDS = 10, PIECE = 1024, MOST_SECONDS = 86400 };
+enum { USUAL_SECONDS = 10, PIECE = 1024, MOST_SECONDS = 86400 };
+
+typedef struct {
+    uint32_t kind;
+    content frame;
+    line line;
+    event_log log;
+    unsigned long seconds; /* how long the chip may be silent */
+    bool bar;              /* a progress bar is shown */
+} loading;
 
 static const char *const check_line =
     "see that the monitor has power, the right port, kind and baud rate; reset it, then load again";
@@ -140,7 +150,8 @@ static int follow(loading *l, session *twin, story *told, size_t *at)
     return code;
 }
 
-int load_frame(loading *l)
+/* Loads the code of the frame. Gives the exit code after it has said what went wrong, if anything did. */
+static int load_frame(loading *l)
 {
     session twin = {.ram = {memory_of(UND_RAM_MAX), UND_RAM_MAX}};
     story told;

@@ -9,9 +9,7 @@
 #include <string.h>
 #include <sys/stat.h>
 
-enum { VERSION_FIELD = 16 };
-
-void view_of(flash_view *v, const char *path, content flash, uint32_t header)
+static void view_of(flash_view *v, const char *path, content flash, uint32_t header)
 {
     *v = (flash_view){.path = path, .flash = flash, .header = header};
     v->product = und_read_product(flash.bytes, flash.length, header);
@@ -40,14 +38,14 @@ int view_file(flash_view *v, const char *path, unsigned long header)
 
 static size_t text_length(const uint8_t *field)
 {
-    const void *end = memchr(field, 0, VERSION_FIELD);
-    return end ? (size_t)((const uint8_t *)end - field) : VERSION_FIELD;
+    const void *end = memchr(field, 0, UND_VERSION_FIELD);
+    return end ? (size_t)((const uint8_t *)end - field) : UND_VERSION_FIELD;
 }
 
 void add_version(text *t, const uint8_t *field)
 {
     size_t length = text_length(field);
-    if (und_rank(field, VERSION_FIELD).number == 0) {
+    if (und_rank(field, UND_VERSION_FIELD).number == 0) {
         text_add_bytes(t, (const char *)field, length);
         return;
     }
@@ -78,7 +76,7 @@ void add_image_json(text *t, const uint8_t *memory, const und_image *image)
     const uint8_t *field = memory + image->version_place;
     text_add(t, ",\"id\":%u,\"size\":%u,\"version\":", image->id, image->size);
     text_add_json(t, (const char *)field, text_length(field));
-    text_add(t, ",\"version_malformed\":%s", und_rank(field, VERSION_FIELD).number ? "true" : "false");
+    text_add(t, ",\"version_malformed\":%s", und_rank(field, UND_VERSION_FIELD).number ? "true" : "false");
 }
 
 void print_images(const flash_view *v)

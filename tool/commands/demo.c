@@ -157,7 +157,7 @@ static int play_visit(void)
     line l;
     content host = demo_visit(), replies = demo_replies();
     errno = 0;
-    if (!line_open(&l, port, 115200))
+    if (!line_open(&l, port, USUAL_BAUD))
         return fail_demo("the monitor's line cannot be opened");
     printf("\n$ cat %s > %s\n", visit, port);
     fflush(stdout);

@@ -12,7 +12,7 @@
 #include <sys/stat.h>
 #include <unistd.h>
 
-enum { USUAL_WORK = 65535, USUAL_FLASH = 1048576, USUAL_BAUD = 115200 };
+enum { USUAL_FLASH = 1048576 };
 
 typedef struct {
     const char *kind, *flash, *save_ram, *port, *link;
@@ -36,7 +36,7 @@ static bool read_play_options(int count, char **words, play_options *o, monitor 
         {"--json", FLAG, &say_json},
         {NULL, FLAG, NULL},
     };
-    *o = (play_options){.ram = UND_RAM_MAX, .work = USUAL_WORK, .baud = USUAL_BAUD};
+    *o = (play_options){.ram = UND_RAM_MAX, .work = UND_WORK_MAX, .baud = USUAL_BAUD};
     return read_options(count, words, options, 1, 1) == 1;
 }
 

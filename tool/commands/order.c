@@ -8,12 +8,10 @@
 #include <stdio.h>
 #include <string.h>
 
-enum { VERSION_FIELD = 16 };
-
 /* A version field with a text in front; a text that is too long makes a field that is too long. */
 static und_ranked rank_of(const char *word, uint8_t *field, size_t *length)
 {
-    *length = strlen(word) > VERSION_FIELD ? strlen(word) : VERSION_FIELD;
+    *length = strlen(word) > UND_VERSION_FIELD ? strlen(word) : UND_VERSION_FIELD;
     memcpy(field, word, strlen(word));
     return und_rank(field, *length);
 }
@@ -43,7 +41,7 @@ int run_order(int count, char **words)
     if (read_options(count, words, options, 2, 2) < 0)
         return MISUSED;
     for (int i = 0; i < 2; i++) {
-        fields[i] = memory_of(strlen(words[i]) + VERSION_FIELD);
+        fields[i] = memory_of(strlen(words[i]) + UND_VERSION_FIELD);
         uint32_t number = rank_of(words[i], fields[i], &lengths[i]).number;
         if (number != 0)
             return refuse(number, "'%s'", words[i]);

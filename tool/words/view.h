@@ -19,8 +19,6 @@ typedef struct {
     und_image images[2]; /* only where the product header is good */
 } flash_view;
 
-void view_of(flash_view *v, const char *path, content flash, uint32_t header);
-
 /* Reads a flash file and the library's answers. Gives DONE, or the exit code after it has said what is wrong. */
 int view_file(flash_view *v, const char *path, unsigned long header);
 
