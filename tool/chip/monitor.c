@@ -9,7 +9,8 @@
 #include <poll.h>
 #include <string.h>
 
-enum { PIECE = 4096, RETRY_MILLISECONDS = 500 };
+/* No line holds more pieces than MOST_OLD that a host has sent and nobody has read. */
+enum { PIECE = 4096, MOST_OLD = 64, RETRY_MILLISECONDS = 500 };
 
 /* What came from the host and was not taken yet. */
 typedef struct {
@@ -104,11 +105,15 @@ static void receive(monitor *m, story *told, incoming *in)
         await_port(m);
 }
 
+/* A reset: the session starts again, and what the host has sent before is lost. */
 static void press_reset(monitor *m, story *told, incoming *in, uint32_t kind)
 {
     story_end(told);
     story_begin(told, &m->log);
     session_fresh(&m->session, kind);
+    in->end = 1;
+    for (int pieces = 0; in->end > 0 && pieces < MOST_OLD; pieces++)
+        line_read(&m->line, in->bytes, sizeof in->bytes, 0, &in->end);
     in->at = in->end = 0;
     log_note(&m->log, "reset", NULL, "reset: the session starts again; memories stay");
 }

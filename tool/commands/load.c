@@ -115,6 +115,21 @@ static int tell_other(loading *l, part due, uint8_t wanted, uint8_t got)
     return refuse_line(check_line, "refused: the chip has answered the header with %02X", got);
 }
 
+/* Takes bytes that wait already: they are older than anything that this load has sent. `byte` becomes the last. Gives
+   how many there are. */
+static size_t take_older(loading *l, long long end, uint8_t *byte)
+{
+    size_t all = 0, count = 1;
+    while (count > 0 && milliseconds_now() < end) {
+        uint8_t next;
+        line_read(&l->line, &next, 1, 0, &count);
+        if (count > 0)
+            *byte = next;
+        all += count;
+    }
+    return all;
+}
+
 /* Waits for the byte that is due. Before the header, any other is passed over; before its answer, greetings are. */
 static int await_byte(loading *l, part due, uint8_t wanted)
 {
@@ -123,6 +138,8 @@ static int await_byte(loading *l, part due, uint8_t wanted)
     for (;; passed++) {
         uint8_t got;
         int code = receive_byte(l, end, &got);
+        if (code == DONE && due == GREETING)
+            passed += take_older(l, end, &got);
         bool other = code == DONE && got != wanted;
         if (other && (due == GREETING || (due == HEADER_ANSWER && got == UND_LINE_GREETING)))
             continue;

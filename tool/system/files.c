@@ -49,12 +49,12 @@ bool read_file(const char *path, size_t most, content *c)
     return whole;
 }
 
-bool write_all(int fd, const void *bytes, size_t length)
+bool write_unless(bool (*stop)(void), int fd, const void *bytes, size_t length)
 {
     const uint8_t *at = bytes;
     while (length > 0) {
         ssize_t count = write(fd, at, length);
-        if (count < 0 && errno != EINTR)
+        if (count < 0 && (errno != EINTR || (stop && stop())))
             return false;
         if (count > 0) {
             at += count;
@@ -64,11 +64,9 @@ bool write_all(int fd, const void *bytes, size_t length)
     return true;
 }
 
-static mode_t mode_for_new_files(void)
+bool write_all(int fd, const void *bytes, size_t length)
 {
-    mode_t mask = umask(0);
-    umask(mask);
-    return 0666 & ~mask;
+    return write_unless(NULL, fd, bytes, length);
 }
 
 static bool write_in_place(const char *path, const uint8_t *bytes, size_t length)
@@ -91,8 +89,7 @@ bool write_file(const char *path, const uint8_t *bytes, size_t length)
     if (exists && !S_ISREG(there.st_mode))
         return write_in_place(path, bytes, length);
     char *real = exists ? realpath(path, NULL) : NULL;
-    mode_t mode = exists ? there.st_mode & 07777 : mode_for_new_files();
-    int fd = replace_file(real ? real : path, mode, bytes, length);
+    int fd = replace_file(real ? real : path, exists ? &there : NULL, bytes, length);
     int reason = errno;
     free(real);
     if (fd >= 0)

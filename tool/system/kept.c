@@ -42,8 +42,8 @@ bool kept_open(kept_file *k, const char *path, size_t most, content *c)
     k->path = realpath(path, NULL);
     if (!k->path)
         return false;
-    k->fd = is_replaceable(k->path) ? open_locked(k->path) : -1;
-    if (k->fd >= 0 && read_open(k->fd, most, c))
+    k->fd = open_locked(k->path);
+    if (k->fd >= 0 && can_replace(k->path) && read_open(k->fd, most, c))
         return true;
     int reason = errno;
     kept_close(k);
@@ -56,7 +56,7 @@ bool kept_replace(kept_file *k, const uint8_t *bytes, size_t length)
     struct stat there;
     if (fstat(k->fd, &there) != 0)
         return false;
-    int fd = replace_file(k->path, there.st_mode & 07777, bytes, length);
+    int fd = replace_file(k->path, &there, bytes, length);
     if (fd < 0)
         return false;
     close(k->fd);

@@ -36,16 +36,6 @@ static char *folder_of(const char *path)
     return t.chars;
 }
 
-bool is_replaceable(const char *path)
-{
-    char *folder = folder_of(path);
-    bool may = access(folder, W_OK | X_OK) == 0;
-    int reason = errno;
-    free(folder);
-    errno = reason;
-    return may;
-}
-
 /* Makes sure that the name in the folder is on the disk. Some file systems can't; then there is nothing to be done. */
 static void sync_folder(const char *path)
 {
@@ -69,9 +59,9 @@ bool lock_file(int fd)
 }
 
 /* Writes the new content under its own name and locks it. Gives the descriptor, or -1. */
-static int write_new(const char *name, mode_t mode, const uint8_t *bytes, size_t length)
+static int write_new(const char *name, const uint8_t *bytes, size_t length)
 {
-    int fd = open(name, O_RDWR | O_CREAT | O_CLOEXEC | O_NOFOLLOW, mode);
+    int fd = open(name, O_RDWR | O_CREAT | O_CLOEXEC | O_NOFOLLOW, 0666);
     if (fd < 0)
         return -1;
     if (lock_file(fd) && ftruncate(fd, 0) == 0 && write_all(fd, bytes, length) && fsync(fd) == 0)
@@ -84,11 +74,36 @@ static int write_new(const char *name, mode_t mode, const uint8_t *bytes, size_t
     return -1;
 }
 
-int replace_file(const char *path, mode_t mode, const uint8_t *bytes, size_t length)
+bool can_replace(const char *path)
+{
+    char *folder = folder_of(path), *name = new_name(path);
+    errno = 0;
+    long most = pathconf(folder, _PC_NAME_MAX);
+    bool fits = most < 0 || strlen(name) - folder_length(name) <= (size_t)most;
+    if (!fits)
+        errno = ENAMETOOLONG;
+    bool can = fits && access(folder, W_OK | X_OK) == 0;
+    int reason = errno;
+    free(folder);
+    free(name);
+    errno = reason;
+    return can;
+}
+
+/* Gives the new file the old one's owner, where that is allowed, and its mode. */
+static bool take_after(int fd, const struct stat *old)
+{
+    if (fchown(fd, old->st_uid, old->st_gid) != 0) {
+        /* then it belongs to whoever has written it */
+    }
+    return fchmod(fd, old->st_mode & 07777) == 0;
+}
+
+int replace_file(const char *path, const struct stat *old, const uint8_t *bytes, size_t length)
 {
     char *name = new_name(path);
-    int fd = write_new(name, mode, bytes, length);
-    if (fd >= 0 && (fchmod(fd, mode) != 0 || rename(name, path) != 0)) {
+    int fd = write_new(name, bytes, length);
+    if (fd >= 0 && ((old && !take_after(fd, old)) || rename(name, path) != 0)) {
         int reason = errno;
         unlink(name);
         close(fd);

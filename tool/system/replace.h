@@ -5,15 +5,15 @@
 #include <stdbool.h>
 #include <stddef.h>
 #include <stdint.h>
-#include <sys/types.h>
+#include <sys/stat.h>
 
-/* Writes the new content beside the file, on the disk too, and then gives it the file's name. Gives the descriptor of
-   the new file, which is locked; or -1, and the old file stays. On failure errno says why; EBUSY: another program does
-   the same. */
-int replace_file(const char *path, mode_t mode, const uint8_t *bytes, size_t length);
+/* Writes the new content beside the file, on the disk too, and then gives it the file's name. Where there is an old
+   file, the new one takes its owner and mode. Gives the descriptor of the new file, which is locked; or -1, and the old
+   file stays. On failure errno says why; EBUSY: another program does the same. */
+int replace_file(const char *path, const struct stat *old, const uint8_t *bytes, size_t length);
 
-/* Whether the file's folder lets it be replaced. On failure errno says why. */
-bool is_replaceable(const char *path);
+/* Whether new content may be written beside the file. On failure errno says why. */
+bool can_replace(const char *path);
 
 /* Locks a whole file. On failure errno says why; EBUSY: another program has locked it. */
 bool lock_file(int fd);

@@ -1,6 +1,7 @@
 #include "log.h"
 
 #include "files.h"
+#include "signals.h"
 #include "words.h"
 
 #include <errno.h>
@@ -91,12 +92,12 @@ static void add_for_machines(text *t, const event *e)
 
 static void tell_failure(event_log *l, const char *where)
 {
-    if (!l->failed)
+    if (!l->failed && !signals_stop())
         fprintf(
             stderr,
             "undalisho: the log cannot be written to %s: %s\n  next: make room there; the session goes on without it\n",
             where, strerror(errno));
-    l->failed = true;
+    l->failed = l->failed || !signals_stop();
 }
 
 void log_event(event_log *l, const event *e)
@@ -106,11 +107,11 @@ void log_event(event_log *l, const event *e)
         add_for_machines(&t, e);
     else
         add_for_people(&t, e);
-    if (!l->quiet && (fwrite(t.chars, 1, t.length, stdout) != t.length || fflush(stdout) != 0)) {
+    if (!l->quiet && (fflush(stdout) != 0 || !write_unless(signals_stop, STDOUT_FILENO, t.chars, t.length))) {
         l->quiet = true;
         tell_failure(l, "standard output");
     }
-    if (l->fd >= 0 && !write_all(l->fd, t.chars, t.length)) {
+    if (l->fd >= 0 && !write_unless(signals_stop, l->fd, t.chars, t.length)) {
         tell_failure(l, l->path);
         log_close(l);
     }
