@@ -6,8 +6,8 @@ use command::opcode::has_length;
 use command::opcode::opcode_of;
 use command::payload::Command;
 use command::payload::command_of;
-use uartboot_flow::header::BAD_LENGTH;
-use uartboot_flow::header::UNKNOWN_OPCODE;
+use uartboot_flow::reason::BAD_LENGTH;
+use uartboot_flow::reason::UNKNOWN_OPCODE;
 
 // The longest payload whose length two bytes can say.
 const LONGEST: usize = 65_535;

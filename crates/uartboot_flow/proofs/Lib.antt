@@ -1,6 +1,5 @@
 pub mod Sounds
 pub mod Dues
 pub mod Laws
-pub mod Bulks
 pub mod Asks
 pub mod Turns

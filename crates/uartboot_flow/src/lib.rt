@@ -1,10 +1,6 @@
-// The uartboot session's flow, step by step: what each step asks, what a taken byte does, what follows a sent one.
-pub mod answer;
+// The uartboot session's flow, step by step, and what each step asks.
 pub mod ask;
 pub mod checksum;
-pub mod go;
-pub mod header;
 pub mod kind;
-pub mod payload;
-pub mod sent;
+pub mod reason;
 pub mod step;

@@ -1,4 +1,6 @@
 // Where the flow stands: groups of steps, and the steps of each group.
+ghost use mathlib.Core.Path.{_≡_};
+ghost use Rattle.uartboot_flow.specs.Gives.{progress};
 use command::opcode::Opcode;
 use wire::unit::RamAddress;
 
@@ -47,6 +49,15 @@ pub enum Step {
 pub struct Progress {
     pub step: Step,
     pub reason: u32,
+}
+
+pub fn to(step: Step, reason: u32) -> Progress
+    ensures { λ r. ⌜ r ≡ progress step reason ⌝ }
+{
+    Progress {
+        step: step,
+        reason: reason,
+    }
 }
 
 // The same after so many bytes were taken, or sent.

@@ -1,0 +1,16 @@
+// The reasons that the flow itself notes; those of a command and of its execution stand with the command.
+
+// The reason where the opcode is unknown.
+pub const UNKNOWN_OPCODE: u32 = 11;
+
+// The reason where the opcode doesn't have the length.
+pub const BAD_LENGTH: u32 = 12;
+
+// The reason where the length is above the work buffer's.
+pub const LONG_PAYLOAD: u32 = 13;
+
+// The reason where the host's CRC differs.
+pub const CRC_DIFFERS: u32 = 19;
+
+// The reason where a byte other than 06 came.
+pub const NOT_ACKED: u32 = 20;

@@ -1,0 +1,62 @@
+-- `uartboot_send::sent::sent_command`: step by step; the header's 06 and the CRC's low byte are not among them.
+-- Assumes nothing.
+use borrow.Author.Needs.{needs}
+use Rattle.uartboot_send.proofs.sent.sent_command.Statement.{statement}
+use Rattle.uartboot_send.proofs.sent.sent_command.Tie as tie
+
+enum-told : tie.Need-enum-told
+enum-told c = search needs
+
+enum-told-2 : tie.Need-enum-told-2
+enum-told-2 c = search needs
+
+enum-told-3 : tie.Need-enum-told-3
+enum-told-3 c = search needs
+
+enum-told-4 : tie.Need-enum-told-4
+enum-told-4 c = search needs
+
+enum-told-5 : tie.Need-enum-told-5
+enum-told-5 c = search needs
+
+enum-told-6 : tie.Need-enum-told-6
+enum-told-6 c = search needs
+
+returns : tie.Need-returns
+returns c = record { is = λ reason m. simp (c .enum-told .given .1) }
+
+returns-2 : tie.Need-returns-2
+returns-2 c = record { is = λ reason m. simp (c .enum-told2 .given .1) }
+
+returns-3 : tie.Need-returns-3
+returns-3 c =
+    let no = rw (c .enum-told3 .given .1) at (c .before .before .pre) in
+    record { is = λ reason m. cc (no) }
+
+returns-4 : tie.Need-returns-4
+returns-4 c = record { is = λ reason m. simp (c .enum-told4 .given .1) }
+
+returns-5 : tie.Need-returns-5
+returns-5 c =
+    let no = rw (c .enum-told5 .given .1) at (c .before .before .pre) in
+    record { is = λ reason m. cc (no) }
+
+returns-6 : tie.Need-returns-6
+returns-6 c = record { is = λ reason m. simp (c .enum-told6 .given .1) }
+
+pub sent-command-spec : {M : Type 1} → statement M
+sent-command-spec =
+    tie.close
+    (tie.spec
+    enum-told
+    enum-told-2
+    enum-told-3
+    enum-told-4
+    enum-told-5
+    enum-told-6
+    returns
+    returns-2
+    returns-3
+    returns-4
+    returns-5
+    returns-6)
