@@ -8,7 +8,7 @@ use mathlib.Core.List.{[]}
 use lib.Dec.{eqb, ltb}
 use lib.ListN.{length, length-set}
 use borrow.Author.Tests.{ltb-true, ltb-false, eqb-false, not-false}
-use Rattle.wire.specs.Line.{ack}
+use Rattle.wire.specs.Line.{soh, ack}
 use Rattle.wire.proofs.Tests.{in-cond}
 use Rattle.machine.specs.Does.{Does}
 use Rattle.machine.proofs.Doing.{Leaves}
@@ -31,7 +31,7 @@ use Rattle.uartboot_flow.specs.declared.step.CommandStep.the-variants.{S
 use Rattle.uartboot_flow.specs.declared.step.AnswerStep.{AnswerStep}
 use Rattle.uartboot_flow.specs.declared.step.AnswerStep.the-variants as a
 use Rattle.uartboot_flow.specs.State.{State, state}
-use Rattle.uartboot_flow.specs.Flow.{crc16, first, goes, refuses, ends, executes, headed, header, arrived, stored, command, showed, answer, doesAt, does}
+use Rattle.uartboot_flow.specs.Flow.{unknownOpcode, badLength, longPayload, crcDiffers, notAcked, crc16, first, goes, refuses, ends, executes, headed, header, arrived, stored, command, showed, answer, doesAt, does}
 use Rattle.uartboot_flow.specs.Sound.{SoundStep, SoundAnswer, Ready}
 
 abbrev Fits : Memories → Type 0
@@ -76,10 +76,10 @@ module _ (m₀ : Memories) where
     on step h = at step reason m fit same h
 
     headed-held : (known : Lookup) (n : ℕ) → Held m₀ (headed reason m known n)
-    headed-held Unknown n = refuses-held 11
+    headed-held Unknown n = refuses-held unknownOpcode
     headed-held (Known opcode) n =
-        in-cond (Held m₀) (not (hasLength opcode n)) _ _ (λ e. refuses-held 12) (λ e.
-        in-cond (Held m₀) (ltb (length (m .work)) n) _ _ (λ f. refuses-held 13) (λ f.
+        in-cond (Held m₀) (not (hasLength opcode n)) _ _ (λ e. refuses-held badLength) (λ e.
+        in-cond (Held m₀) (ltb (length (m .work)) n) _ _ (λ f. refuses-held longPayload) (λ f.
         on (Command opcode n SendAck) (record { has-length = not-false _ e; in-work = ltb-false _ _ f }, tt)))
 
     arrived-held : (opcode : Opcode) (n count : ℕ) → Carried opcode n (length (m .work)) → 0 < n → Held m₀ (arrived reason m opcode n count)
@@ -93,7 +93,7 @@ module _ (m₀ : Memories) where
     Stays d = Leaves Good (λ _ t. Held m₀ t) [] s d
 
     header-held : (step : HeaderStep) → Stays (header reason m step)
-    header-held TakeSoh = λ b g. on reason m fit same (Header (cond (eqb b 1) TakeOpcode TakeSoh)) tt
+    header-held TakeSoh = λ b g. on reason m fit same (Header (cond (eqb b soh) TakeOpcode TakeSoh)) tt
     header-held TakeOpcode = λ b g. on reason m fit same (Header (TakeLow b)) tt
     header-held (TakeLow opcode) = λ b g. on reason m fit same (Header (TakeHigh opcode b)) tt
     header-held (TakeHigh opcode low) = λ b g. headed-held reason m fit same (opcodeOf opcode) (low + 256 * b)
@@ -113,7 +113,7 @@ module _ (m₀ : Memories) where
     command-held opcode n SendCrcLow h = on reason m fit same (Command opcode n SendCrcHigh) h
     command-held opcode n SendCrcHigh h = on reason m fit same (Command opcode n TakeGo) h
     command-held opcode n TakeGo h =
-        λ b g. in-cond (Held m₀) (eqb b ack) _ _ (λ e. executes-held reason m fit same opcode n) (λ e. first-held reason m fit same 20)
+        λ b g. in-cond (Held m₀) (eqb b ack) _ _ (λ e. executes-held reason m fit same opcode n) (λ e. first-held reason m fit same notAcked)
 
     answer-held : (opcode : Opcode) (n : ℕ) (step : AnswerStep) → SoundStep (length (m .ram)) (length (m .work)) (Answer opcode n step) →
         Stays (answer reason m opcode n step)
@@ -121,14 +121,14 @@ module _ (m₀ : Memories) where
     answer-held opcode n a.SendLengthHigh h = on reason m fit same (Answer opcode n a.TakeGo) (h .0, tt)
     answer-held opcode n a.TakeGo h =
         λ b g. in-cond (Held m₀) (eqb b ack) _ _ (λ e. on reason m fit same (Answer opcode n (a.SendAnswer 0)) (h .0, h .0 .some))
-        (λ e. first-held reason m fit same 20)
+        (λ e. first-held reason m fit same notAcked)
     answer-held opcode n (a.SendAnswer place) h =
         let more = in-cond (SoundAnswer n) (ltb (place + 1) n) (a.SendAnswer (place + 1)) a.TakeCrcLow (λ e. ltb-true _ _ e) (λ e. tt) in
         on reason m fit same (showed opcode n (place + 1)) (h .0, more)
     answer-held opcode n a.TakeCrcLow h = λ b g. on reason m fit same (Answer opcode n (a.TakeCrcHigh b)) (h .0, tt)
     answer-held opcode n (a.TakeCrcHigh low) h =
         λ b g. in-cond (Held m₀) (eqb (low + 256 * b) (crc16 n (m .work))) _ _ (λ e. on reason m fit same (Answer opcode n a.SendAck) (h .0, tt))
-        (λ e. refuses-held reason m fit same 19)
+        (λ e. refuses-held reason m fit same crcDiffers)
     answer-held opcode n a.SendAck h = first-held reason m fit same reason
 
     does-held : (step : Step) → SoundStep (length (m .ram)) (length (m .work)) step → Stays (doesAt reason m step)
