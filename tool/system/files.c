@@ -1,15 +1,19 @@
 #include "files.h"
 
 #include "replace.h"
+#include "signals.h"
 #include "text.h"
 
 #include <errno.h>
 #include <fcntl.h>
+#include <limits.h>
+#include <poll.h>
 #include <stdlib.h>
 #include <sys/stat.h>
 #include <unistd.h>
 
-enum { PIECE = 1 << 16 };
+/* PATIENCE is in milliseconds. */
+enum { PIECE = 1 << 16, PATIENCE = 100 };
 
 bool read_open(int fd, size_t most, content *c)
 {
@@ -49,12 +53,14 @@ bool read_file(const char *path, size_t most, content *c)
     return whole;
 }
 
-bool write_unless(bool (*stop)(void), int fd, const void *bytes, size_t length)
+/* Writes all bytes in pieces of at most `most`, each after `may_go_on` says so. */
+static bool write_pieces(int fd, const uint8_t *at, size_t length, size_t most, bool (*may_go_on)(int fd))
 {
-    const uint8_t *at = bytes;
     while (length > 0) {
-        ssize_t count = write(fd, at, length);
-        if (count < 0 && (errno != EINTR || (stop && stop())))
+        if (!may_go_on(fd))
+            return false;
+        ssize_t count = write(fd, at, length < most ? length : most);
+        if (count < 0 && errno != EINTR)
             return false;
         if (count > 0) {
             at += count;
@@ -64,9 +70,33 @@ bool write_unless(bool (*stop)(void), int fd, const void *bytes, size_t length)
     return true;
 }
 
+static bool always(int fd)
+{
+    (void)fd;
+    return true;
+}
+
 bool write_all(int fd, const void *bytes, size_t length)
 {
-    return write_unless(NULL, fd, bytes, length);
+    return write_pieces(fd, bytes, length, SIZE_MAX, always);
+}
+
+/* Waits until the descriptor has room; once the end is asked for, not much longer. */
+static bool has_room(int fd)
+{
+    struct pollfd waited = {.fd = fd, .events = POLLOUT};
+    bool stop = false;
+    while (poll(&waited, 1, PATIENCE) <= 0) {
+        if (stop)
+            return false;
+        stop = signals_stop();
+    }
+    return true;
+}
+
+bool write_until_stopped(int fd, const void *bytes, size_t length)
+{
+    return write_pieces(fd, bytes, length, _POSIX_PIPE_BUF, has_room);
 }
 
 static bool write_in_place(const char *path, const uint8_t *bytes, size_t length)

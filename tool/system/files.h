@@ -23,7 +23,7 @@ bool write_file(const char *path, const uint8_t *bytes, size_t length);
 /* Writes all bytes to a descriptor. */
 bool write_all(int fd, const void *bytes, size_t length);
 
-/* The same, but it gives up where a signal interrupts it and `stop` then says so. */
-bool write_unless(bool (*stop)(void), int fd, const void *bytes, size_t length);
+/* The same, but it gives up where nobody reads what it writes and the end is asked for. */
+bool write_until_stopped(int fd, const void *bytes, size_t length);
 
 #endif

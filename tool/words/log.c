@@ -107,11 +107,11 @@ void log_event(event_log *l, const event *e)
         add_for_machines(&t, e);
     else
         add_for_people(&t, e);
-    if (!l->quiet && (fflush(stdout) != 0 || !write_unless(signals_stop, STDOUT_FILENO, t.chars, t.length))) {
+    if (!l->quiet && (fflush(stdout) != 0 || !write_until_stopped(STDOUT_FILENO, t.chars, t.length))) {
         l->quiet = true;
         tell_failure(l, "standard output");
     }
-    if (l->fd >= 0 && !write_unless(signals_stop, l->fd, t.chars, t.length)) {
+    if (l->fd >= 0 && !write_until_stopped(l->fd, t.chars, t.length)) {
         tell_failure(l, l->path);
         log_close(l);
     }
