@@ -1,0 +1,103 @@
+"""undalisho demo."""
+import os
+import pty
+import shutil
+import signal
+import subprocess
+
+import bench
+from line import Line
+
+
+class Demo(bench.Case):
+    def setUp(self):
+        super().setUp()
+        self.temporary = self.path('temporary')
+        os.mkdir(self.temporary)
+        self.environment = {**os.environ, 'TMPDIR': self.temporary}
+
+    def check_story(self, text):
+        before, after = text.split('1.9 is lower than 1.10')
+        for part, slot in [(before, 1), (after, 2)]:
+            self.assertIn(f'slot {slot} will start', part)
+            self.assertNotIn(f'slot {3 - slot} will start', part)
+            picture = [line for line in part.splitlines() if line.startswith('  0x000000')]
+            self.assertEqual(len(picture), 1)
+            self.assertRegex(picture[0], r'111.*22.*H')
+            marks, = [line for line in part.splitlines() if line.endswith(' starts') and '^' in line]
+            self.assertEqual({picture[0][i] for i, sign in enumerate(marks) if sign == '^'}, {str(slot)})
+        for words in ['greeting: the boot ROM waits', 'running', 'Get version is done', 'Erase QSPI is done', 'Copy to QSPI is done', 'version 1.10']:
+            self.assertIn(words, before + after)
+
+    def test_to_a_file(self):
+        with open(self.path('output'), 'w+b') as output:
+            self.tool('demo', stdout=output, env=self.environment)
+        text = self.content('output').decode()
+        self.assertNotIn('\033', text)
+        self.check_story(text)
+        self.assertEqual(os.listdir(self.temporary), [])
+
+    def test_to_a_terminal(self):
+        ours, theirs = pty.openpty()
+        line = Line(self, ours)
+        with subprocess.Popen([bench.PROGRAM, 'demo'], stdout=theirs, stderr=theirs, env={**self.environment, 'NO_COLOR': '1'}) as p:
+            os.close(theirs)
+            text = line.read_to_end().decode().replace('\r\n', '\n')
+            self.assertEqual(p.wait(bench.SECONDS), 0)
+        self.assertIn('100%', text)
+        self.check_story(text)
+        self.assertEqual(os.listdir(self.temporary), [])
+
+    def test_usual_folder(self):
+        environment = {name: value for name, value in os.environ.items() if name != 'TMPDIR'}
+        self.check_story(self.tool('demo', env=environment).stdout)
+
+    def test_keep(self):
+        text = self.tool('demo', '--keep', env=self.environment).stdout
+        kept, = os.listdir(self.temporary)
+        self.assertIn(kept, text)
+        flash = os.path.join(self.temporary, kept, 'flash.bin')
+        self.assertEqual(self.json('slot', flash)[0]['slot'], 2)
+
+    def test_unwritable_folder(self):
+        """What is in the user's own folder stays."""
+        mine = ['flash.bin', 'package.bin', 'visit.bin', 'monitor', 'monitor.log']
+        for name in mine:
+            self.file(name, b'mine')
+        for place in ['/nonexistent', self.path('flash.bin'), '/proc']:
+            with self.subTest(place=place):
+                self.tool('demo', code=bench.FAILED, env={**os.environ, 'TMPDIR': place})
+        self.assertEqual([self.content(name) for name in mine], [b'mine'] * 5)
+
+    def test_full_output(self):
+        with open('/dev/full', 'wb') as full:
+            self.tool('demo', code=bench.FAILED, stdout=full, env=self.environment)
+        self.assertEqual(os.listdir(self.temporary), [])
+
+    def test_stopped(self):
+        """Neither files nor a monitor are left."""
+        for number in (signal.SIGTERM, signal.SIGINT):
+            with self.subTest(signal=number.name):
+                process = subprocess.Popen([bench.PROGRAM, 'demo'], stdout=subprocess.PIPE, stderr=subprocess.PIPE, env=self.environment)
+                self.addCleanup(process.kill)
+                while b'play rom' not in process.stdout.readline():
+                    pass
+                process.send_signal(number)
+                _, errors = process.communicate(timeout=bench.SECONDS)  # ends only when the monitor's output is closed too
+                self.assertNotEqual(process.returncode, 0)
+                self.check_complaint(errors.decode())
+                self.assertEqual(os.listdir(self.temporary), [])
+
+    def test_read_only_folder(self):
+        """Root may write everywhere, and becomes nobody."""
+        os.chmod(self.folder, 0o755)
+        os.chmod(self.temporary, 0o555)
+        program = shutil.copy(bench.PROGRAM, self.path('program'))
+        other = {'user': 65534, 'group': 65534, 'extra_groups': []} if os.getuid() == 0 else {}
+        done = subprocess.run([program, 'demo'], capture_output=True, timeout=bench.SECONDS, env=self.environment, **other)
+        self.assertEqual(done.returncode, bench.FAILED)
+        self.check_complaint(done.stderr.decode())
+
+
+if __name__ == '__main__':
+    bench.main()
