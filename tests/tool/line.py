@@ -14,7 +14,6 @@ class Line:
 
     def __init__(self, case, fd):
         self.fd = fd
-        self.came = b''
         case.addCleanup(self.close)
 
     @classmethod
@@ -32,6 +31,18 @@ class Line:
     def write(self, data):
         while data:
             data = data[os.write(self.fd, data):]
+
+    def write_some(self, data):
+        """Writes what the line takes now; gives how many bytes."""
+        if not select.select([], [self.fd], [], 0.01)[1]:
+            return 0
+        os.set_blocking(self.fd, False)
+        try:
+            return os.write(self.fd, data)
+        except BlockingIOError:
+            return 0
+        finally:
+            os.set_blocking(self.fd, True)
 
     def ready(self, seconds):
         return bool(select.select([self.fd], [], [], max(seconds, 0))[0])
@@ -56,7 +67,6 @@ class Line:
             if not piece:
                 raise AssertionError(f'the line ended after {len(data)} of {count} bytes: {data[-64:].hex(" ")}')
             data += piece
-        self.came += data
         return data
 
     def expect(self, data, seconds=bench.SECONDS):

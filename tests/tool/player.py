@@ -2,6 +2,7 @@
 import os
 import signal
 import subprocess
+import time
 
 import bench
 from line import Line
@@ -12,16 +13,16 @@ class Player:
 
     count = 0
 
-    def __init__(self, case, *words, json=True, port=None, code=bench.DONE, program=bench.PROGRAM, **options):
+    def __init__(self, case, *words, json=True, port=None, link=None, **options):
         Player.count += 1
-        self.case, self.json, self.code = case, json, code
-        self.port = port or case.path(f'line{Player.count}')
+        self.case, self.json = case, json
+        self.port = port or link or case.path(f'line{Player.count}')
         self.log = case.path(f'log{Player.count}')
         self.output, self.errors = case.path(f'output{Player.count}'), case.path(f'errors{Player.count}')
         place = ['--port', port] if port else ['--link', self.port]
         words = ['play', *words, *place, '--log', self.log, *(['--json'] if json else [])]
         with open(self.output, 'wb') as output, open(self.errors, 'wb') as errors:
-            self.process = subprocess.Popen([program, *words], stdin=subprocess.DEVNULL, stdout=output, stderr=errors, cwd=case.folder,
+            self.process = subprocess.Popen([bench.PROGRAM, *words], stdin=subprocess.DEVNULL, stdout=output, stderr=errors, cwd=case.folder,
                                             **options)
         case.addCleanup(self.kill)
         bench.wait_until(lambda: 'playing' in self.text() or self.process.poll() is not None, 'the player begins')
@@ -76,6 +77,12 @@ class Player:
     def end(self):
         self.signal(signal.SIGTERM)
         return self.wait()
+
+    def rest(self):
+        """How many seconds of processor time it uses in a second in which nothing happens."""
+        before = self.processor_seconds()
+        time.sleep(1)
+        return self.processor_seconds() - before
 
     def processor_seconds(self):
         with open(f'/proc/{self.process.pid}/stat') as f:
