@@ -9,6 +9,10 @@ import tty
 import bench
 
 
+class Ended(AssertionError):
+    """The other end is gone."""
+
+
 class Line:
     """A descriptor whose bytes are waited for. What comes may be looked at; what doesn't come in time fails the test."""
 
@@ -65,7 +69,7 @@ class Line:
                 raise AssertionError(f'{len(data)} of {count} bytes came: {data[-64:].hex(" ")}')
             piece = self.some(count - len(data))
             if not piece:
-                raise AssertionError(f'the line ended after {len(data)} of {count} bytes: {data[-64:].hex(" ")}')
+                raise Ended(f'the line ended after {len(data)} of {count} bytes: {data[-64:].hex(" ")}')
             data += piece
         return data
 
@@ -82,6 +86,12 @@ class Line:
                 return data
             data += piece
         raise AssertionError('the line does not end')
+
+    def expect_end(self):
+        """The other end goes, and sends nothing before."""
+        came = self.read_to_end()
+        if came:
+            raise AssertionError(f'{came.hex(" ")} came, where the end was due')
 
     def expect_nothing(self, seconds=0.2):
         if self.ready(seconds):

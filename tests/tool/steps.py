@@ -1,0 +1,14 @@
+"""A program that is stopped at a step of the replacement of its file; see step.c."""
+import os
+import subprocess
+
+HERE = os.path.dirname(os.path.abspath(__file__))
+
+
+def environment(case, step, how):
+    """The environment in which a program meets this step; `how` is 'kill' or an error's number."""
+    shim = case.path('step.so')
+    if not os.path.exists(shim):
+        subprocess.run(['gcc', '-Wall', '-Wextra', '-Werror', '-O1', '-shared', '-fPIC', os.path.join(HERE, 'step.c'), '-o', shim, '-ldl'], check=True)
+    options = os.environ['ASAN_OPTIONS'] + ':verify_asan_link_order=0'
+    return {**os.environ, 'LD_PRELOAD': shim, 'STEP': step, 'HOW': str(how), 'ASAN_OPTIONS': options}
