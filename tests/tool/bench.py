@@ -69,6 +69,16 @@ class Case(unittest.TestCase):
             self.check_complaint(done.stderr)
         return done
 
+    def as_nobody(self, *words, seconds=SECONDS, **options):
+        """Runs the program where permissions count: root, who may do everything, becomes nobody."""
+        os.chmod(self.folder, 0o755)
+        program = shutil.copy(PROGRAM, self.path('program'))
+        other = {'user': 65534, 'group': 65534, 'extra_groups': []} if os.getuid() == 0 else {}
+        done = subprocess.run([program, *words], capture_output=True, stdin=subprocess.DEVNULL, timeout=seconds, cwd='/', **other, **options)
+        self.assertEqual(done.returncode, FAILED, done.stderr)
+        self.check_complaint(done.stderr.decode())
+        self.assertIn(b'Permission denied', done.stderr)
+
     def check_complaint(self, text):
         """Words, and what to do next."""
         lines = text.splitlines()

@@ -1,7 +1,6 @@
 """undalisho demo."""
 import os
 import pty
-import shutil
 import signal
 import subprocess
 
@@ -89,14 +88,8 @@ class Demo(bench.Case):
                 self.assertEqual(os.listdir(self.temporary), [])
 
     def test_read_only_folder(self):
-        """Root may write everywhere, and becomes nobody."""
-        os.chmod(self.folder, 0o755)
         os.chmod(self.temporary, 0o555)
-        program = shutil.copy(bench.PROGRAM, self.path('program'))
-        other = {'user': 65534, 'group': 65534, 'extra_groups': []} if os.getuid() == 0 else {}
-        done = subprocess.run([program, 'demo'], capture_output=True, timeout=bench.SECONDS, env=self.environment, **other)
-        self.assertEqual(done.returncode, bench.FAILED)
-        self.check_complaint(done.stderr.decode())
+        self.as_nobody('demo', env=self.environment)
 
 
 if __name__ == '__main__':

@@ -1,7 +1,5 @@
 """Files that cannot be read, for each command that reads one."""
 import os
-import shutil
-import subprocess
 
 import bench
 
@@ -31,18 +29,11 @@ class Files(bench.Case):
         self.check(self.path('link'), 'No such file')
 
     def test_unreadable(self):
-        """Whoever runs this; root may read everything, and becomes nobody."""
         path = self.file('secret', b'x' * 4096)
         os.chmod(path, 0)
-        os.chmod(self.folder, 0o777)
-        program = shutil.copy(bench.PROGRAM, self.path('program'))
-        other = {'user': 65534, 'group': 65534, 'extra_groups': []} if os.getuid() == 0 else {}
         for words in self.commands(path):
             with self.subTest(words=words):
-                done = subprocess.run([program, *words], capture_output=True, timeout=bench.SECONDS, cwd='/', **other)
-                self.assertEqual(done.returncode, bench.FAILED, done.stderr)
-                self.check_complaint(done.stderr.decode())
-                self.assertIn(b'Permission denied', done.stderr)
+                self.as_nobody(*words)
 
 
 if __name__ == '__main__':

@@ -46,7 +46,7 @@ class Load(bench.Case):
         player = Player(self, 'rom', '--kind', 'p', json=False)
         lines = self.load(player, 'p', b'\x11\x22\x44').stdout.splitlines()
         player.wait()
-        expected = [r'chip +02 +greeting', r'host +01 03 00 +header: code of 3 bytes', r'chip +06 +header accepted',
+        expected = [r'chip +02 +greeting', r'host +01 03 00 +header: code.* 3 bytes', r'chip +06 +header accepted',
                     r'host +11 22 44 +code: 3 bytes', r'chip +77 +checksum', r'host +06 +acknowledged: code runs at 0x07FC0000']
         self.assertEqual(len(lines), 7)
         for line, pattern in zip(lines, [*expected, 'running: 3 bytes']):

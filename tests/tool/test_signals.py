@@ -21,8 +21,9 @@ class SignalCase(bench.Case):
 
 class Reset(SignalCase):
     def press(self):
+        pressed = len(self.player.named('reset'))
         self.player.signal(signal.SIGUSR1)
-        self.player.await_event('reset', len(self.player.named('reset')) + 1)
+        self.player.await_event('reset', pressed + 1)
 
     def goes_on(self):
         """Memories are as they were, and the line answers."""
@@ -66,7 +67,6 @@ class Reset(SignalCase):
     def test_many_times(self):
         for _ in range(2000):
             self.player.signal(signal.SIGUSR1)
-        self.press()
         self.host.resynchronize()
         self.assertLess(self.player.rest(), 0.05)
         self.host.version()
