@@ -105,6 +105,14 @@ class Load(bench.Case):
         for kind, code, number in [('p', b'', 41), ('p', bytes(65536), 42), ('e', bytes(131072), 42)]:
             self.refused(number, 'load', '--kind', kind, '--port', '/dev/null', self.file('code', code))
 
+    def test_other_kind(self):
+        """An extended length is refused by kind p; a short one is the same for both."""
+        player = Player(self, 'rom', '--kind', 'p')
+        self.assertIn('other kind', self.load(player, 'e', bytes(65536), code=bench.REFUSED).stderr)
+        player.await_reason(32)
+        self.load(player, 'e', b'code')
+        player.wait()
+
     def test_then_uartboot(self):
         player = Player(self, 'rom', '--kind', 'e', '--then-uartboot')
         self.load(player, 'e', b'stand-in')
