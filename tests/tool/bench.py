@@ -74,7 +74,8 @@ class Case(unittest.TestCase):
         os.chmod(self.folder, 0o755)
         program = shutil.copy(PROGRAM, self.path('program'))
         other = {'user': 65534, 'group': 65534, 'extra_groups': []} if os.getuid() == 0 else {}
-        done = subprocess.run([program, *words], capture_output=True, stdin=subprocess.DEVNULL, timeout=seconds, cwd='/', **other, **options)
+        options = {**other, **options, 'stdin': subprocess.DEVNULL, 'cwd': '/'}
+        done = subprocess.run([program, *words], capture_output=True, timeout=seconds, **options)
         self.assertEqual(done.returncode, FAILED, done.stderr)
         self.check_complaint(done.stderr.decode())
         self.assertIn(b'Permission denied', done.stderr)

@@ -22,8 +22,8 @@ class Player:
         place = ['--port', port] if port else ['--link', self.port]
         words = ['play', *words, *place, '--log', self.log, *(['--json'] if json else [])]
         with open(self.output, 'wb') as output, open(self.errors, 'wb') as errors:
-            self.process = subprocess.Popen([bench.PROGRAM, *words], stdin=subprocess.DEVNULL, stdout=output, stderr=errors, cwd=case.folder,
-                                            **options)
+            options = {**options, 'stdin': subprocess.DEVNULL, 'stdout': output, 'stderr': errors, 'cwd': case.folder}
+            self.process = subprocess.Popen([bench.PROGRAM, *words], **options)
         case.addCleanup(self.kill)
         bench.wait_until(lambda: 'playing' in self.text() or self.process.poll() is not None, 'the player begins')
 
@@ -77,6 +77,10 @@ class Player:
     def end(self):
         self.signal(signal.SIGTERM)
         return self.wait()
+
+    def bytes_read(self):
+        with open(f'/proc/{self.process.pid}/io') as f:
+            return int(f.readline().split()[1])
 
     def rest(self):
         """How many seconds of processor time it uses in a second in which nothing happens."""

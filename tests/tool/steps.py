@@ -9,6 +9,7 @@ def environment(case, step, how):
     """The environment in which a program meets this step; `how` is 'kill' or an error's number."""
     shim = case.path('step.so')
     if not os.path.exists(shim):
-        subprocess.run(['gcc', '-Wall', '-Wextra', '-Werror', '-O1', '-shared', '-fPIC', os.path.join(HERE, 'step.c'), '-o', shim, '-ldl'], check=True)
+        flags = ['-Wall', '-Wextra', '-Werror', '-O1', '-shared', '-fPIC']
+        subprocess.run(['gcc', *flags, os.path.join(HERE, 'step.c'), '-o', shim, '-ldl'], check=True)
     options = os.environ['ASAN_OPTIONS'] + ':verify_asan_link_order=0'
     return {**os.environ, 'LD_PRELOAD': shim, 'STEP': step, 'HOW': str(how), 'ASAN_OPTIONS': options}

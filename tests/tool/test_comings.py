@@ -68,8 +68,8 @@ class Comings(bench.Case):
 
     def test_host_that_reads_late(self):
         """Bytes go both ways while buffers are full."""
-        commands = [(model.READ_QSPI, model.range_payload(0, 65535)), (model.WRITE, model.store_payload(RAM, model.noise(65000)))] * 3
-        sent, expected = script(self.memories, commands)
+        commands = [(model.READ_QSPI, model.range_payload(0, 65535)), (model.WRITE, model.store_payload(RAM, model.noise(65000)))]
+        sent, expected = script(self.memories, commands * 3)
         self.assertEqual(converse(self.player.open(), sent, len(expected), 'whole'), expected)
         self.player.end()
 

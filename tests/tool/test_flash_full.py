@@ -33,8 +33,8 @@ class Full(FlashCase):
         self.assertFalse(os.path.lexists(self.player.port))
 
     def test_errors_at_each_step(self):
-        for step, number in [('open', errno.EACCES), ('empty', errno.ENOSPC), ('half', errno.ENOSPC), ('half', errno.EIO), ('fsync', errno.EIO),
-                             ('rename', errno.EROFS)]:
+        for step, number in [('open', errno.EACCES), ('empty', errno.ENOSPC), ('half', errno.ENOSPC), ('half', errno.EIO),
+                             ('fsync', errno.EIO), ('rename', errno.EROFS)]:
             with self.subTest(step=step, error=errno.errorcode[number]):
                 self.check(os.strerror(number), env=steps.environment(self, step, number))
 
@@ -49,7 +49,8 @@ class Full(FlashCase):
     def test_full_disk(self):
         """A small disk in memory, where one may be made."""
         disk = self.path('flashes')
-        if subprocess.run(['mount', '-t', 'tmpfs', '-o', f'size={LENGTH * 3 // 2}', 'none', disk], stderr=subprocess.DEVNULL).returncode:
+        mount = ['mount', '-t', 'tmpfs', '-o', f'size={LENGTH * 3 // 2}', 'none', disk]
+        if subprocess.run(mount, stderr=subprocess.DEVNULL).returncode:
             raise unittest.SkipTest('no disk may be mounted here')
         self.addCleanup(subprocess.run, ['umount', '-l', disk], check=True)
         self.flash = self.file('flashes/flash.bin', self.before)

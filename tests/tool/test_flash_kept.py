@@ -14,10 +14,17 @@ class Kept(FlashCase):
     def test_after_each_command(self):
         host = self.play()
         host.do(model.WRITE, model.store_payload(RAM, model.noise(9000, 4)))
-        for opcode, payload in [
-                (model.ERASE, model.erase_payload(4095, 2)), (model.COPY, model.copy_payload(RAM, 9000, 100)), (model.ERASE, model.erase_payload(0, 1)),
-                (model.DIRECT_WRITE, model.store_payload(0, b'data', 1)), (model.DIRECT_WRITE, model.store_payload(LENGTH - 1, b'\0', 0)),
-                (model.ERASE, model.erase_payload(0, LENGTH)), (model.DIRECT_WRITE, model.store_payload(5, b'x', 1)), (model.CHIP_ERASE, b'')]:
+        commands = [
+            (model.ERASE, model.erase_payload(4095, 2)),
+            (model.COPY, model.copy_payload(RAM, 9000, 100)),
+            (model.ERASE, model.erase_payload(0, 1)),
+            (model.DIRECT_WRITE, model.store_payload(0, b'data', 1)),
+            (model.DIRECT_WRITE, model.store_payload(LENGTH - 1, b'\0', 0)),
+            (model.ERASE, model.erase_payload(0, LENGTH)),
+            (model.DIRECT_WRITE, model.store_payload(5, b'x', 1)),
+            (model.CHIP_ERASE, b''),
+        ]
+        for opcode, payload in commands:
             host.do(opcode, payload)
             self.assertEqual(self.content(self.flash), host.memories.flash)
             self.alone()

@@ -64,7 +64,8 @@ class AnyMoment(FlashCase):
             if rng.random() < 0.5:
                 yield model.ERASE, model.erase_payload(rng.randrange(LENGTH), 1)
             else:
-                yield model.DIRECT_WRITE, model.store_payload(rng.randrange(LENGTH - 5000), model.noise(5000, rng.randrange(100)), 0)
+                data = model.noise(5000, rng.randrange(100))
+                yield model.DIRECT_WRITE, model.store_payload(rng.randrange(LENGTH - 5000), data, 0)
 
     def round(self, rng):
         """Gives how many commands the host was told are done."""

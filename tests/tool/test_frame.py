@@ -29,7 +29,8 @@ class Frame(bench.Case):
         os.remove(out)
 
     def test_length_fields(self):
-        for kind, length, field in [('e', 65536, b'\0\0\0\0'), ('e', 65537, b'\0\0\1\0'), ('e', 65535, b'\xFF\xFF'), ('p', 3, b'\3\0')]:
+        fields = [('e', 65536, b'\0\0\0\0'), ('e', 65537, b'\0\0\1\0'), ('e', 65535, b'\xFF\xFF'), ('p', 3, b'\3\0')]
+        for kind, length, field in fields:
             self.tool('frame', '--kind', kind, self.file('code', b'x' * length), '-o', 'frame')
             self.assertEqual(self.content('frame'), b'\1' + field + b'x' * length + b'\6')
 

@@ -16,7 +16,7 @@ BROKEN = {
     4: [(SECOND, model.image(CODE, size=size)) for size in (0, 131073, 0xFFFFFFFF)],
     5: [(LENGTH - 64 - 2999, model.image(CODE)[:-1]), (SECOND, model.image(CODE, size=LENGTH - SECOND - 63))],
     6: [(SECOND, model.image(CODE, encrypted=1)), (SECOND, model.image(CODE, encrypted=0x80))],
-    7: [(SECOND, model.image(CODE[:-1] + bytes([CODE[-1] ^ 1]), crc=zlib.crc32(CODE))), (SECOND, model.image(CODE, size=2999, crc=1))],
+    7: [(SECOND, model.image(CODE[:-1] + bytes([CODE[-1] ^ 1]), crc=zlib.crc32(CODE))), (SECOND, model.image(CODE, size=2999))],
 }
 GOOD = model.image(model.noise(500, 2), 1, b'3.4')
 

@@ -34,7 +34,8 @@ class Load(bench.Case):
         """Who sent which bytes."""
         frame = model.frame(kind, code)
         header = frame[:len(frame) - len(code) - 1]
-        sent = [('chip', b'\2'), ('host', header), ('chip', b'\6'), ('host', code), ('chip', bytes([model.xor(code)])), ('host', b'\6')]
+        checksum = bytes([model.xor(code)])
+        sent = [('chip', b'\2'), ('host', header), ('chip', b'\6'), ('host', code), ('chip', checksum), ('host', b'\6')]
         seen = [event for event in player.events() if 'from' in event]
         self.assertEqual([event['event'] for event in seen], ROM)
         self.assertEqual([(event['from'], bytes.fromhex(event['bytes'])) for event in seen], sent)

@@ -16,8 +16,8 @@ F_SETPIPE_SZ = 1031
 class Log(bench.Case):
     def play(self, *words, **options):
         port = self.path('line')
-        self.process = subprocess.Popen([bench.PROGRAM, 'play', 'uartboot', '--json', '--link', port, *words], stderr=subprocess.PIPE,
-                                        stdin=subprocess.DEVNULL, **options)
+        words = ['play', 'uartboot', '--json', '--link', port, *words]
+        self.process = subprocess.Popen([bench.PROGRAM, *words], stderr=subprocess.PIPE, stdin=subprocess.DEVNULL, **options)
         self.addCleanup(self.stop)
         bench.wait_until(lambda: os.path.exists(port), 'the player begins')
         return Host(Line.open(self, port), model.Memories(b''))

@@ -43,7 +43,8 @@ class Map(bench.Case):
         self.assertEqual(sum(line.startswith('  0x') for line in text.splitlines()), 16)
 
     def test_images(self):
-        content = model.flash(12 * S, (0, model.product_header(2 * S, 6 * S)), (2 * S, image(1, 3)), (6 * S, image(2, 2)), (10 * S, b'x'))
+        header = (0, model.product_header(2 * S, 6 * S))
+        content = model.flash(12 * S, header, (2 * S, image(1, 3)), (6 * S, image(2, 2)), (10 * S, b'x'))
         text = self.check(content, 'H.111.22..o.', 2)
         marks, = [line for line in text.splitlines() if 'starts' in line and '^' in line]
         row, = [line for line in text.splitlines() if line.startswith('  0x')]

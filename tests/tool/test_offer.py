@@ -20,7 +20,8 @@ class OfferCase(bench.Case):
 
 class Offer(OfferCase):
     def test_higher_lower_equal(self):
-        for installed, candidate, wins in [(b'1.9', b'1.10', 2), (b'1.10', b'1.9', 1), (b'1.9', b'1.9.0', 1), (b'1', b'1.0.0.1', 2)]:
+        pairs = [(b'1.9', b'1.10', 2), (b'1.10', b'1.9', 1), (b'1.9', b'1.9.0', 1), (b'1', b'1.0.0.1', 2)]
+        for installed, candidate, wins in pairs:
             with self.subTest(installed=installed, candidate=candidate):
                 codes = self.files(installed, candidate)
                 text = self.tool('offer', self.installed, self.candidate, '-o', 'code').stdout
@@ -28,7 +29,8 @@ class Offer(OfferCase):
                 self.assertEqual(self.content('code'), codes[wins - 1])
                 answer, = self.json('offer', self.installed, self.candidate)
                 self.assertEqual([answer[key] for key in ('number', 'file', 'place', 'size')], [0, wins, 64, len(codes[wins - 1])])
-                self.assertEqual([answer[key]['version'] for key in ('installed', 'candidate')], [installed.decode(), candidate.decode()])
+                self.assertEqual(answer['installed']['version'], installed.decode())
+                self.assertEqual(answer['candidate']['version'], candidate.decode())
 
     def test_refusals(self):
         good, bad, odd = file_of(b'1.0', 1), file_of(b'2.0', 2, flag=0), file_of(b'v2', 3)

@@ -35,8 +35,9 @@ PAYLOADS = [
 ]
 
 # A piece of what is said of each.
-WORDS = {11: 'unknown opcode', 12: 'length', 13: 'work buffer', 14: 'verify', 15: 'is 0', 16: 'not in its memory', 17: 'answer longer',
-         18: 'differs', 19: 'CRC', 20: 'not acknowledged', 31: '01', 32: 'length 0', 33: 'RAM', 34: 'not acknowledged'}
+WORDS = {11: 'unknown opcode', 12: 'length', 13: 'work buffer', 14: 'verify', 15: 'is 0', 16: 'not in its memory',
+         17: 'answer longer', 18: 'differs', 19: 'CRC', 20: 'not acknowledged', 31: '01', 32: 'length 0', 33: 'RAM',
+         34: 'not acknowledged'}
 
 
 class ReasonCase(bench.Case):
@@ -136,8 +137,8 @@ class Receiver(bench.Case):
         player = Player(self, 'rom', '--kind', 'p', '--ram', '100')
         line = player.open()
         line.expect(b'\2')
-        for sent, came, reason in [(b'\x55', b'\x15\2', 31), (b'\1\0\0', b'\x15\2', 32), (b'\1\x65\0', b'\x15\2', 33), (b'\1\1\0', b'\6', 0),
-                                   (b'A', b'A', 0), (b'\x15', b'\2', 34), (b'\1\xFF\xFF', b'\x15\2', 33)]:
+        for sent, came, reason in [(b'\x55', b'\x15\2', 31), (b'\1\0\0', b'\x15\2', 32), (b'\1\x65\0', b'\x15\2', 33),
+                                   (b'\1\1\0', b'\6', 0), (b'A', b'A', 0), (b'\x15', b'\2', 34), (b'\1\xFF\xFF', b'\x15\2', 33)]:
             line.write(sent)
             line.expect(came)
             if reason:

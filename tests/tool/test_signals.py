@@ -25,6 +25,12 @@ class Reset(SignalCase):
         self.player.signal(signal.SIGUSR1)
         self.player.await_event('reset', pressed + 1)
 
+    def send(self, data):
+        """Sends bytes, and waits until the player has read them."""
+        before = self.player.bytes_read()
+        self.line.write(data)
+        bench.wait_until(lambda: self.player.bytes_read() >= before + len(data), 'the player reads')
+
     def goes_on(self):
         """Memories are as they were, and the line answers."""
         self.host.resynchronize()
@@ -39,16 +45,15 @@ class Reset(SignalCase):
         self.goes_on()
 
     def test_in_a_header(self):
-        self.line.write(header(model.ERASE, 8)[:2])
+        self.send(header(model.ERASE, 8)[:2])
         self.press()
         self.goes_on()
 
     def test_in_a_payload(self):
-        """What was sent before the reset may be read after it; it begins no command."""
         self.host.do(model.WRITE, model.store_payload(RAM, b'kept'))
         self.host.head(model.WRITE, 100)
         self.line.expect(ACK)
-        self.line.write(struct.pack('<I', RAM) + b'lost')
+        self.send(struct.pack('<I', RAM) + b'lost')
         self.press()
         self.goes_on()
 

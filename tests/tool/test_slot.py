@@ -42,13 +42,14 @@ class Slot(SlotCase):
     def test_says_what_it_shows(self):
         path = self.file('flash.bin', flash_with(good(9, 3000, b'1.9'), good(10, 4000, b'1.10')))
         text = self.tool('slot', path).stdout
-        for piece in [f'{LENGTH} bytes', '0x1F000', '0x08000', '0x13000', 'id 9, version 1.9, 3000 bytes', 'id 10, version 1.10, 4000 bytes']:
+        for piece in [f'{LENGTH} bytes', '0x1F000', '0x08000', '0x13000', 'id 9, version 1.9, 3000 bytes',
+                      'id 10, version 1.10, 4000 bytes']:
             self.assertIn(piece, text)
         self.assertRegex(text, r'slot 2 at .*STARTS')
         self.assertNotRegex(text, r'slot 1 at .*STARTS')
         first, second = self.json('slot', path)[0]['images']
-        self.assertEqual((first['slot'], first['offset'], first['size'], first['version'], first['valid']), (1, FIRST, 3000, '1.9', True))
-        self.assertEqual((second['slot'], second['offset'], second['size'], second['version']), (2, SECOND, 4000, '1.10'))
+        for image, expected in [(first, (1, FIRST, 3000, '1.9', True)), (second, (2, SECOND, 4000, '1.10', True))]:
+            self.assertEqual(tuple(image[key] for key in ('slot', 'offset', 'size', 'version', 'valid')), expected)
 
     def test_malformed_version_starts_all_the_same(self):
         answer = self.check(flash_with(good(1, version=b'1..2'), good(2, version=b'a"b\\\x07\xFF')))
@@ -103,7 +104,8 @@ class Header(SlotCase):
 
 class Lengths(SlotCase):
     def test_length_not_allowed(self):
-        for length in [0, 1, 4095, 4097, LENGTH - 1, LENGTH + 1, model.FLASH_MOST + 1, model.FLASH_MOST + 4096, 2 * model.FLASH_MOST]:
+        most = model.FLASH_MOST
+        for length in [0, 1, 4095, 4097, LENGTH - 1, LENGTH + 1, most + 1, most + 4096, 2 * most]:
             with self.subTest(length=length):
                 path = self.file('flash.bin', bytes(length))
                 self.refused(3, 'slot', path, about=f'{length} bytes')

@@ -51,8 +51,8 @@ class Uartboot(bench.Case):
         host.do(model.CHIP_ERASE)
         self.player.end()
         words = [event['words'] for event in self.player.named('payload')]
-        expected = [('4 bytes', '0x07FC0000'), ('3 bytes', '0x07FC0010'), ('4 bytes', '0x07FC0000', '0x00123'), ('4096 bytes', '0x02000'),
-                    ('2 bytes', '0x02000'), ('3 bytes', '0x02000', 'verify 1')]
+        expected = [('4 bytes', '0x07FC0000'), ('3 bytes', '0x07FC0010'), ('4 bytes', '0x07FC0000', '0x00123'),
+                    ('4096 bytes', '0x02000'), ('2 bytes', '0x02000'), ('3 bytes', '0x02000', 'verify 1')]
         for said, pieces in zip(words, expected, strict=True):
             for piece in pieces:
                 self.assertIn(piece, said)
@@ -87,8 +87,8 @@ class Uartboot(bench.Case):
         host = self.begin(json=False)
         host.version()
         self.player.end()
-        for pattern in ['playing uartboot on /dev/', 'chip +02 01 00 03 +greeting', 'host +01 0B 00 00 +header: Get version', 'answer: 7 bytes',
-                        'chip +30 2E 30 2E 30 2E 33 ', 'host +6E 62 .*right', 'Get version is done', 'stopped']:
+        for pattern in ['playing uartboot on /dev/', 'chip +02 01 00 03 +greeting', 'host +01 0B 00 00 +header: Get version',
+                        'answer: 7 bytes', 'chip +30 2E 30 2E 30 2E 33 ', 'host +6E 62 .*right', 'Get version is done', 'stopped']:
             self.assertRegex(self.player.text(), pattern)
 
     def test_dropped_bytes(self):

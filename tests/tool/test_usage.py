@@ -49,8 +49,8 @@ class Usage(bench.Case):
                     self.misused(command, *['x'] * (NEEDED[command] - 1), about='usage: undalisho ' + command)
 
     def test_missing_values(self):
-        for words in [('slot', 'x', '--header'), ('offer', 'x', 'y', '-o'), ('frame', 'x', '-o', 'y', '--kind'), ('play', 'rom', '--kind'),
-                      ('play', 'uartboot', '--ram'), ('load', 'x', '--port'), ('load', 'x', '--wait')]:
+        for words in [('slot', 'x', '--header'), ('offer', 'x', 'y', '-o'), ('frame', 'x', '-o', 'y', '--kind'),
+                      ('play', 'rom', '--kind'), ('play', 'uartboot', '--ram'), ('load', 'x', '--port'), ('load', 'x', '--wait')]:
             with self.subTest(words=words):
                 self.misused(*words, about=words[-1])
 
@@ -65,16 +65,16 @@ class Usage(bench.Case):
 class PlayAndLoad(bench.Case):
     def test_play(self):
         for words in [('spi',), ('rom',), ('rom', '--kind', 'x'), ('uartboot', '--kind', 'p'), ('uartboot', '--then-uartboot'),
-                      ('uartboot', '--baud', '12345'), ('uartboot', '--baud', '0'), ('uartboot', '--ram', 'many'), ('uartboot', '--work', '1k'),
-                      ('uartboot', '--port', '/dev/null', '--link', 'x')]:
+                      ('uartboot', '--baud', '12345'), ('uartboot', '--baud', '0'), ('uartboot', '--ram', 'many'),
+                      ('uartboot', '--work', '1k'), ('uartboot', '--port', '/dev/null', '--link', 'x')]:
             with self.subTest(words=words):
                 self.misused('play', *words)
 
     def test_load(self):
         code = self.file('code', b'x')
         good = ['--kind', 'p', '--port', '/dev/null', code]
-        for words in [good[2:], good[:2] + [code], good[:-1], [*good, '--baud', '1'], [*good, '--wait', '0'], [*good, '--wait', '1.5'],
-                      [*good, '--wait', '99999999'], ['--kind', 'q', *good[2:]]]:
+        for words in [good[2:], good[:2] + [code], good[:-1], ['--kind', 'q', *good[2:]], [*good, '--baud', '1'],
+                      [*good, '--wait', '0'], [*good, '--wait', '1.5'], [*good, '--wait', '99999999']]:
             with self.subTest(words=words):
                 self.misused('load', *words)
 
