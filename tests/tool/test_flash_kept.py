@@ -46,7 +46,9 @@ class Kept(FlashCase):
         self.assertEqual(self.content(self.flash), host.memories.flash)
 
     def test_what_changes_nothing_writes_nothing(self):
-        host, there = self.play(), os.stat(self.flash)
+        host = self.play()
+        host.do(model.ERASE, model.erase_payload(0x1000, 1))
+        there = os.stat(self.flash)
         host.version()
         host.do(model.WRITE, model.store_payload(RAM, b'data'))
         host.do(model.DIRECT_WRITE, model.store_payload(0, b'\xFF' * 16, 0))
