@@ -99,6 +99,20 @@ class Log(bench.Case):
         self.assertIn(self.process.wait(bench.SECONDS), (bench.DONE, bench.FAILED))
         os.close(ours)
 
+    def test_end_of_an_idle_player_whose_output_nobody_reads(self):
+        ours, theirs = os.pipe()
+        self.play(stdout=theirs).version()
+        os.set_blocking(theirs, False)
+        try:
+            while os.write(theirs, b'x'):
+                pass
+        except BlockingIOError:
+            os.set_blocking(theirs, True)
+        self.process.send_signal(signal.SIGTERM)
+        self.assertIn(self.process.wait(10), (bench.DONE, bench.FAILED))
+        os.close(ours)
+        os.close(theirs)
+
 
 if __name__ == '__main__':
     bench.main()

@@ -27,6 +27,7 @@ class Reset(SignalCase):
         pressed = len(self.player.named('reset'))
         self.player.signal(signal.SIGUSR1)
         self.player.await_event('reset', pressed + 1)
+        self.host.resynchronize()
 
     def send(self, data):
         """Sends bytes, and waits until the player has read them."""
@@ -36,7 +37,6 @@ class Reset(SignalCase):
 
     def goes_on(self):
         """Memories are as they were, and the line answers."""
-        self.host.resynchronize()
         self.host.version()
         self.host.do(model.READ, model.range_payload(RAM, 8))
         self.host.do(model.READ_QSPI, model.range_payload(0, 64))
@@ -69,6 +69,7 @@ class Reset(SignalCase):
         self.send(UNREAD * 4)
         self.player.await_event('answer-wanted')
         self.press()
+        self.assertLess(len(self.player.named('header')), 4)
         self.goes_on()
 
     def test_many_times(self):
