@@ -1,5 +1,6 @@
 /* Loaded before the C library: at STEP of the replacement of a file, the program is killed (HOW=kill) or the call fails
- * (HOW is the number of the error). The steps, in order: open, empty, half, fsync, rename, renamed. */
+ * (HOW is the number of the error). The steps, in order: open, empty, half, fsync, rename, renamed. The file TRACE is told
+ * what is done: write, fsync, rename, and folder for the folder's fsync; reply for what is sent to a pseudo-terminal. */
 #define _GNU_SOURCE
 #include <dlfcn.h>
 #include <errno.h>
@@ -34,13 +35,28 @@ static int is_new_name(const char *name)
     return end && end[strlen(".undalisho-new")] == 0;
 }
 
-static int is_new(int fd)
+static const char *name_of(int fd)
 {
-    char link[64], name[4096];
+    static char name[4096];
+    char link[64];
     snprintf(link, sizeof link, "/proc/self/fd/%d", fd);
     ssize_t length = readlink(link, name, sizeof name - 1);
     name[length > 0 ? length : 0] = 0;
-    return is_new_name(name);
+    return name;
+}
+
+static int is_new(int fd)
+{
+    return is_new_name(name_of(fd));
+}
+
+static void note(const char *what)
+{
+    FILE *trace = getenv("TRACE") ? fopen(getenv("TRACE"), "a") : NULL;
+    if (trace) {
+        fprintf(trace, "%s\n", what);
+        fclose(trace);
+    }
 }
 
 #define REAL(type, name, ...) ((type(*)(__VA_ARGS__))dlsym(RTLD_NEXT, name))
@@ -60,6 +76,10 @@ ssize_t write(int fd, const void *bytes, size_t count)
 {
     ssize_t (*real)(int, const void *, size_t) = REAL(ssize_t, "write", int, const void *, size_t);
     static int halves;
+    if (is_new(fd))
+        note("write");
+    else if (strstr(name_of(fd), "ptmx"))
+        note("reply");
     if (is_step("empty") && is_new(fd))
         return halt();
     if (!is_step("half") || !is_new(fd))
@@ -69,6 +89,7 @@ ssize_t write(int fd, const void *bytes, size_t count)
 
 int fsync(int fd)
 {
+    note(is_new(fd) ? "fsync" : "folder");
     if (is_step("fsync") && is_new(fd))
         return halt();
     return REAL(int, "fsync", int)(fd);
@@ -76,6 +97,7 @@ int fsync(int fd)
 
 int rename(const char *from, const char *to)
 {
+    note("rename");
     if (is_step("rename") && is_new_name(from))
         return halt();
     int done = REAL(int, "rename", const char *, const char *)(from, to);

@@ -11,5 +11,6 @@ def environment(case, step, how):
     if not os.path.exists(shim):
         flags = ['-Wall', '-Wextra', '-Werror', '-O1', '-shared', '-fPIC']
         subprocess.run(['gcc', *flags, os.path.join(HERE, 'step.c'), '-o', shim, '-ldl'], check=True)
+    trace = case.path('trace')
     options = os.environ['ASAN_OPTIONS'] + ':verify_asan_link_order=0'
-    return {**os.environ, 'LD_PRELOAD': shim, 'STEP': step, 'HOW': str(how), 'ASAN_OPTIONS': options}
+    return {**os.environ, 'LD_PRELOAD': shim, 'STEP': step, 'HOW': str(how), 'TRACE': trace, 'ASAN_OPTIONS': options}

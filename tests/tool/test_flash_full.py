@@ -66,6 +66,10 @@ class NotKept(FlashCase):
             with self.subTest(path=path):
                 self.failed('play', 'uartboot', '--flash', path)
 
+    def test_a_name_that_leaves_no_room_for_the_new_one(self):
+        path = self.file('x' * 255, self.before)
+        self.failed('play', 'uartboot', '--flash', path, about='too long')
+
     def test_read_only_file(self):
         os.chmod(self.flash, 0o444)
         os.chmod(self.path('flashes'), 0o777)

@@ -4,6 +4,7 @@ import stat
 
 import bench
 import model
+import steps
 from flash_case import LENGTH, FlashCase
 from host import ACK, NAK
 
@@ -64,6 +65,23 @@ class Kept(FlashCase):
             host.do(model.READ_QSPI, model.range_payload(0, 0x4000))
             self.player.end()
         self.assertEqual(self.content(self.flash), b'\xFF' * 0x3000 + self.before[0x3000:])
+
+    def test_it_is_on_the_disk_before_the_host_is_told(self):
+        host = self.play(env=steps.environment(self, '', ''))
+        self.file('trace', b'')
+        host.do(model.ERASE, model.erase_payload(0, 1))
+        self.player.end()
+        done = self.content('trace').decode().split()
+        self.assertEqual(done[done.index('write'):][:5], ['write', 'fsync', 'rename', 'folder', 'reply'])
+
+    def test_owner(self):
+        if os.getuid() == 0:
+            os.chown(self.flash, 65534, 65534)
+        there = os.stat(self.flash)
+        self.play().do(model.CHIP_ERASE)
+        self.player.end()
+        now = os.stat(self.flash)
+        self.assertEqual((there.st_uid, there.st_gid), (now.st_uid, now.st_gid))
 
     def test_mode(self):
         for mode in (0o600, 0o664, 0o755):

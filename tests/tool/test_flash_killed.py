@@ -1,4 +1,5 @@
 """play: whenever the player is killed, the flash file is the one before or after a whole command."""
+import os
 import random
 import threading
 import time
@@ -45,6 +46,13 @@ class Steps(FlashCase):
 
     def test_half_written(self):
         self.check('half', False)
+
+    def test_half_written_where_others_may_not_read(self):
+        os.chmod(self.flash, 0o600)
+        host = self.play(env=steps.environment(self, 'half', 'kill'))
+        host.head(model.CHIP_ERASE, 0)
+        host.line.expect_end()
+        self.assertEqual(os.stat(self.path('flashes/' + NEW)).st_mode & 0o077, 0)
 
     def test_before_it_is_on_the_disk(self):
         self.check('fsync', False)

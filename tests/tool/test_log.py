@@ -1,5 +1,4 @@
 """play: a log that cannot be written, or that nobody reads."""
-import fcntl
 import os
 import signal
 import subprocess
@@ -9,8 +8,6 @@ import bench
 import model
 from host import Host
 from line import Line
-
-F_SETPIPE_SZ = 1031
 
 
 class Log(bench.Case):
@@ -62,10 +59,9 @@ class Log(bench.Case):
     def fill_output(self):
         """A player that waits for someone to read its log. Gives the host and the reading end."""
         ours, theirs = os.pipe()
-        fcntl.fcntl(theirs, F_SETPIPE_SZ, 4096)
         host = self.play(stdout=theirs)
         os.close(theirs)
-        host.line.write(b'\1\x0B\0\0\6\0\0' * 100)
+        host.line.write(b'\1\x0B\0\0\6\0\0' * 200)
         while host.line.ready(0.3):
             host.line.some()
         return host, ours
