@@ -41,12 +41,34 @@ enum {
     UND_WORK_MAX = 65535     /* to this many */
 };
 
+/* A byte of flash that is erased. */
+enum {
+    UND_FLASH_BLANK = 0xFF
+};
+
 /* The line's bytes. */
 enum {
     UND_LINE_START = 0x01,    /* begins a header */
     UND_LINE_GREETING = 0x02, /* the receiver's greeting, and the first byte of uartboot's */
     UND_LINE_ACK = 0x06,      /* accepts */
     UND_LINE_NAK = 0x15       /* refuses */
+};
+
+/* The numbers of refusals. Each function says which of them it gives, and when. */
+enum {
+    UND_BAD_WORK = 1,
+    UND_BAD_RAM = 2,
+    UND_BAD_FLASH = 3,
+    UND_BAD_RECORD = 4,
+    UND_EMPTY_CODE = 41,
+    UND_LONG_CODE = 42,
+    UND_SHORT_OUTPUT = 43,
+    UND_NO_PRODUCT_HEADER = 51,
+    UND_WRONG_PRODUCT_MARK = 52,
+    UND_NO_VALID_IMAGE = 53,
+    UND_MALFORMED_VERSION = 61,
+    UND_INSTALLED_NOT_VALID = 62,
+    UND_CANDIDATE_NOT_VALID = 63
 };
 
 /* ---- Versions ----
@@ -256,6 +278,24 @@ und_product_header und_make_product_header(uint32_t first, uint32_t second);
  *     34      none  a byte other than 06 after the XOR; the code stays in RAM and does not run
  */
 
+/* The reasons above. */
+enum {
+    UND_UNKNOWN_OPCODE = 11,
+    UND_BAD_LENGTH = 12,
+    UND_LONG_PAYLOAD = 13,
+    UND_BAD_VERIFY = 14,
+    UND_EMPTY_RANGE = 15,
+    UND_OUTSIDE_MEMORY = 16,
+    UND_LONG_ANSWER = 17,
+    UND_VERIFY_DIFFERS = 18,
+    UND_CRC_DIFFERS = 19,
+    UND_NOT_ACKED = 20,
+    UND_ROM_NO_START = 31,
+    UND_ROM_EMPTY_CODE = 32,
+    UND_ROM_LONG_CODE = 33,
+    UND_ROM_NOT_ACKED = 34
+};
+
 /* A report's standing. */
 enum {
     UND_WANTS_BYTE = 1,
@@ -368,6 +408,19 @@ und_report und_rom_call(uint32_t record[8], const uint8_t *input, size_t input_l
  *     18       sends 15
  *     19       runs code                                             held (the address)
  */
+
+/* The opcodes. */
+enum {
+    UND_OP_WRITE = 0x01,
+    UND_OP_READ = 0x02,
+    UND_OP_COPY = 0x03,
+    UND_OP_ERASE = 0x04,
+    UND_OP_RUN = 0x05,
+    UND_OP_READ_QSPI = 0x08,
+    UND_OP_VERSION = 0x0B,
+    UND_OP_CHIP_ERASE = 0x0C,
+    UND_OP_DIRECT_WRITE = 0x12
+};
 
 typedef struct {
     uint32_t number;

@@ -4,7 +4,9 @@
 #include "options.h"
 #include "say.h"
 
+#include <fcntl.h>
 #include <signal.h>
+#include <stdbool.h>
 #include <stdio.h>
 #include <string.h>
 
@@ -13,16 +15,20 @@
 #endif
 
 static const command commands[] = {
-    {"slot", "FLASH [--header OFFSET] [--json]", "names the slot that will start, and shows both images", run_slot},
-    {"map", "FLASH [--header OFFSET] [--json]", "draws the flash: blank and used sectors, header, images", run_map},
+    {"slot", "FLASH [--header OFFSET] [--json]", "names the slot that will start, shows both images", run_slot},
+    {"map", "FLASH [--header OFFSET] [--json]", "draws the flash: sectors, header, images", run_map},
     {"order", "A B [--json]", "tells which of two versions is higher", run_order},
     {"offer", "INSTALLED CANDIDATE [-o CODE] [--json]", "takes the image file with the higher version", run_offer},
     {"frame", "--kind p|e CODE -o FRAME [--json]", "writes what a host sends to the boot ROM", run_frame},
     {"play",
-     "rom --kind p|e [--then-uartboot] | uartboot  [--ram BYTES] [--flash FILE] [--work BYTES] [--save-ram FILE]\n"
-     "       [--port DEVICE] [--baud N] [--link PATH] [--log FILE] [--quiet] [--json]",
+     "rom --kind p|e [--then-uartboot] [options]\n"
+     "       undalisho play uartboot [options]\n"
+     "options: --ram BYTES, --flash FILE, --work BYTES, --save-ram FILE,\n"
+     "       --port DEVICE --baud N or --link PATH, --log FILE, --quiet, --json",
      "is the monitor, on a serial port or a pseudo-terminal", run_play},
-    {"load", "--kind p|e --port DEVICE [--baud N] [--wait SECONDS] [--log FILE] [--quiet] [--json] CODE",
+    {"load",
+     "--kind p|e --port DEVICE CODE [options]\n"
+     "options: --baud N, --wait SECONDS, --log FILE, --quiet, --json",
      "loads code through the boot ROM's line, and starts it", run_load},
     {"demo", "[--keep]", "shows all of it with no monitor plugged in", run_demo},
 };
@@ -69,13 +75,26 @@ static int run(int argc, char **argv)
     current_command = find_command(argv[1]);
     if (!current_command)
         return misuse("there is no command '%s'", argv[1]);
-    if (argc > 2 && (strcmp(argv[2], "--help") == 0 || strcmp(argv[2], "-h") == 0))
-        return print_help(argv[1]);
+    for (int i = 2; i < argc && strcmp(argv[i], "--") != 0; i++)
+        if (strcmp(argv[i], "--help") == 0 || strcmp(argv[i], "-h") == 0)
+            return print_help(argv[1]);
     return current_command->run(argc - 2, argv + 2);
+}
+
+/* A descriptor of 0 to 2 that is closed would be taken by the next file that is opened, and what is said would go
+ * there. */
+static bool descriptors_are_open(void)
+{
+    for (int fd = 0; fd <= 2; fd++)
+        if (fcntl(fd, F_GETFD) < 0 && open("/dev/null", fd ? O_RDONLY : O_WRONLY) != fd)
+            return false;
+    return true;
 }
 
 int main(int argc, char **argv)
 {
+    if (!descriptors_are_open())
+        return FAILED;
     /* Writing to a closed pipe, or past a file size limit, is an error that is reported and not the program's end. */
     signal(SIGPIPE, SIG_IGN);
     signal(SIGXFSZ, SIG_IGN);

@@ -23,11 +23,16 @@ uint32_t monitor_refusal(monitor *m)
     uint8_t none;
     session_fresh(&m->session, m->kind);
     uint32_t number = session_turn(&m->session, NULL, 0, &none, 0).number;
-    if (number == 0 && m->then_uartboot) {
+    if (number == 0 && (m->then_uartboot || m->flash_file.path)) {
         session_fresh(&m->session, UND_KIND_UARTBOOT);
         number = session_turn(&m->session, NULL, 0, &none, 0).number;
     }
     return number;
+}
+
+static bool is_running(const monitor *m)
+{
+    return phase_of(m->session.record).part == RUNNING;
 }
 
 /* Puts the flash into its file if it has changed since. What a host is told comes after that. */
@@ -65,10 +70,10 @@ static void send_all(monitor *m, const uint8_t *bytes, size_t length)
 {
     size_t sent;
     while (length > 0 && !signals_pending()) {
-        line_event event = line_write(&m->line, bytes, length, -1, &sent);
+        line_event happened = line_write(&m->line, bytes, length, -1, &sent);
         bytes += sent;
         length -= sent;
-        if (event == LINE_GONE) {
+        if (happened == LINE_GONE) {
             await_port(m);
             return;
         }
@@ -83,7 +88,7 @@ static int turn(monitor *m, story *told, incoming *in)
     memcpy(before, m->session.record, sizeof before);
     und_report r = session_turn(&m->session, in->bytes + in->at, in->end - in->at, reply, sizeof reply);
     if (r.number != 0)
-        return refuse(r.number, "%s", "");
+        return refuse(r.number, "in the middle of a session");
     int code = phase_of(before).part != phase_of(m->session.record).part ? keep_flash(m) : DONE;
     if (code != DONE)
         return code;
@@ -98,19 +103,16 @@ static void receive(monitor *m, story *told, incoming *in)
 {
     size_t count;
     story_rest(told);
-    line_event event = line_read(&m->line, in->bytes, sizeof in->bytes, -1, &count);
+    line_event happened = line_read(&m->line, in->bytes, sizeof in->bytes, -1, &count);
     in->at = 0;
     in->end = count;
-    if (event == LINE_GONE)
+    if (happened == LINE_GONE)
         await_port(m);
 }
 
-/* A reset: the session starts again, and what the host has sent before is lost. */
-static void press_reset(monitor *m, story *told, incoming *in, uint32_t kind)
+/* A reset: what the host has sent before is lost. */
+static void press_reset(monitor *m, incoming *in)
 {
-    story_end(told);
-    story_begin(told, &m->log);
-    session_fresh(&m->session, kind);
     in->end = 1;
     for (int pieces = 0; in->end > 0 && pieces < MOST_OLD; pieces++)
         line_read(&m->line, in->bytes, sizeof in->bytes, 0, &in->end);
@@ -118,17 +120,15 @@ static void press_reset(monitor *m, story *told, incoming *in, uint32_t kind)
     log_note(&m->log, "reset", NULL, "reset: the session starts again; memories stay");
 }
 
-/* Plays one session until code runs. */
+/* Plays one session until code runs, the reset button is pressed or the end is asked for. */
 static int play_session(monitor *m, uint32_t kind, incoming *in)
 {
     story told;
     int code = DONE;
     story_begin(&told, &m->log);
     session_fresh(&m->session, kind);
-    while (code == DONE && !signals_stop() && phase_of(m->session.record).part != RUNNING) {
-        if (signals_reset())
-            press_reset(m, &told, in, kind);
-        else if (in->at == in->end && !phase_of(m->session.record).sends)
+    while (code == DONE && !signals_pending() && !is_running(m)) {
+        if (in->at == in->end && !phase_of(m->session.record).sends)
             receive(m, &told, in);
         else
             code = turn(m, &told, in);
@@ -140,14 +140,23 @@ static int play_session(monitor *m, uint32_t kind, incoming *in)
 int monitor_play(monitor *m)
 {
     static incoming in;
-    int code = play_session(m, m->kind, &in);
-    if (code == DONE && m->then_uartboot && !signals_stop()) {
-        log_note(&m->log, "uartboot", NULL, "the code is taken to be uartboot, which is played now");
-        code = play_session(m, UND_KIND_UARTBOOT, &in);
+    uint32_t kind = m->kind;
+    int code = DONE;
+    for (bool on = true; on && code == DONE;) {
+        code = play_session(m, kind, &in);
+        if (signals_reset()) {
+            press_reset(m, &in);
+            kind = m->kind;
+        } else if (code == DONE && kind != UND_KIND_UARTBOOT && m->then_uartboot && is_running(m)) {
+            log_note(&m->log, "uartboot", NULL, "the code is taken to be uartboot, which is played now");
+            kind = UND_KIND_UARTBOOT;
+        } else {
+            on = false;
+        }
     }
-    if (code == DONE && !signals_stop())
+    if (code == DONE && is_running(m))
         line_drain(&m->line);
     if (code == DONE)
-        log_note(&m->log, "end", NULL, signals_stop() ? "stopped" : "code runs: the boot line is done");
+        log_note(&m->log, "end", NULL, is_running(m) ? "code runs: the boot line is done" : "stopped");
     return code;
 }

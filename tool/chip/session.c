@@ -2,21 +2,42 @@
 
 /* As undalisho.h has the phases of a receiver. */
 static const phase rom_phases[] = {
-    {GREETING, true, false, false},      {HEADER, false, false, true},  {HEADER, false, false, false},
-    {HEADER, false, false, false},       {HEADER, false, false, false}, {HEADER, false, false, false},
-    {HEADER_ANSWER, true, false, false}, {CODE, false, true, false},    {CHECKSUM, true, false, false},
-    {GO, false, false, false},           {REFUSAL, true, false, false}, {RUNNING, false, false, false},
+    [0] = {.part = GREETING, .sends = true},      /* sends 02 */
+    [1] = {.part = HEADER, .idle = true},         /* takes 01 */
+    [2] = {.part = HEADER},                       /* takes the length */
+    [3] = {.part = HEADER},                       /* .. */
+    [4] = {.part = HEADER},                       /* takes the extended length */
+    [5] = {.part = HEADER},                       /* .. */
+    [6] = {.part = HEADER_ANSWER, .sends = true}, /* sends 06 */
+    [7] = {.part = CODE, .bulk = true},           /* takes code */
+    [8] = {.part = CHECKSUM, .sends = true},      /* sends the XOR */
+    [9] = {.part = GO},                           /* takes the byte after it */
+    [10] = {.part = REFUSAL, .sends = true},      /* sends 15 */
+    [11] = {.part = RUNNING},                     /* runs the code */
 };
 
 /* As undalisho.h has the phases of uartboot. */
 static const phase uartboot_phases[] = {
-    {GREETING, true, false, false},      {HEADER, false, false, true},      {HEADER, false, false, false},
-    {HEADER, false, false, false},       {HEADER, false, false, false},     {HEADER_ANSWER, true, false, false},
-    {PAYLOAD, false, true, false},       {CHECKSUM, true, false, false},    {CHECKSUM, true, false, false},
-    {CHECKSUM, true, false, false},      {GO, false, false, false},         {ANSWER_LENGTH, true, false, false},
-    {ANSWER_LENGTH, true, false, false}, {ANSWER_GO, false, false, false},  {ANSWER, true, true, false},
-    {ANSWER_CRC, false, false, false},   {ANSWER_CRC, false, false, false}, {ANSWER_END, true, false, false},
-    {REFUSAL, true, false, false},       {RUNNING, false, false, false},
+    [0] = {.part = GREETING, .sends = true},              /* sends 02 01 00 03 */
+    [1] = {.part = HEADER, .idle = true},                 /* drops bytes until 01 */
+    [2] = {.part = HEADER},                               /* takes the opcode */
+    [3] = {.part = HEADER},                               /* takes the length */
+    [4] = {.part = HEADER},                               /* .. */
+    [5] = {.part = HEADER_ANSWER, .sends = true},         /* sends 06 */
+    [6] = {.part = PAYLOAD, .bulk = true},                /* takes the payload */
+    [7] = {.part = CHECKSUM, .sends = true},              /* sends 06 */
+    [8] = {.part = CHECKSUM, .sends = true},              /* sends the CRC */
+    [9] = {.part = CHECKSUM, .sends = true},              /* .. */
+    [10] = {.part = GO},                                  /* takes the byte on which it executes */
+    [11] = {.part = ANSWER_LENGTH, .sends = true},        /* sends the answer's length */
+    [12] = {.part = ANSWER_LENGTH, .sends = true},        /* .. */
+    [13] = {.part = ANSWER_GO},                           /* takes 06 */
+    [14] = {.part = ANSWER, .sends = true, .bulk = true}, /* sends the answer */
+    [15] = {.part = ANSWER_CRC},                          /* takes the host's CRC */
+    [16] = {.part = ANSWER_CRC},                          /* .. */
+    [17] = {.part = ANSWER_END, .sends = true},           /* sends 06 */
+    [18] = {.part = REFUSAL, .sends = true},              /* sends 15 */
+    [19] = {.part = RUNNING},                             /* runs code */
 };
 
 phase phase_of(const uint32_t record[UND_RECORD_WORDS])

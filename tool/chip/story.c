@@ -120,7 +120,10 @@ static void add_accepted(text *t, const story *s, const uint32_t *after)
 static void tell(story *s, const char *name, uint32_t reason, const text *words)
 {
     sender from = phase_of(s->first).sends ? FROM_CHIP : FROM_HOST;
-    log_event(s->log, &(event){from, name, s->bytes, s->count, reason, words->chars, NULL});
+    log_event(
+        s->log,
+        &(event){
+            .from = from, .name = name, .bytes = s->bytes, .count = s->count, .reason = reason, .words = words->chars});
     s->count = 0;
 }
 

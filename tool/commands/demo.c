@@ -15,6 +15,7 @@
 #include <stdio.h>
 #include <stdlib.h>
 #include <string.h>
+#include <sys/stat.h>
 #include <sys/wait.h>
 #include <unistd.h>
 
@@ -95,9 +96,10 @@ static int show_order(void)
     return run_order(type("order", words, ""), words);
 }
 
-/* Starts the monitor beside this program, and waits until its line is there. */
+/* Starts the monitor beside this program, and waits until it has said in its log where it is. */
 static int start_monitor(void)
 {
+    struct stat log;
     char *words[] = {"rom",    "--kind", "e",     "--then-uartboot", "--flash", flash,
                      "--link", port,     "--log", log_file,          "--quiet", NULL};
     int count = type("play", words, " &");
@@ -108,8 +110,12 @@ static int start_monitor(void)
     if (monitor == 0)
         _exit(finish(run_play(count, words)));
     for (int waited = 0; waited < PATIENCE && !signals_stop(); waited += STEP) {
-        if (access(port, R_OK | W_OK) == 0)
+        if (stat(log_file, &log) == 0 && log.st_size > 0)
             return DONE;
+        if (waitpid(monitor, NULL, WNOHANG) == monitor) {
+            monitor = 0;
+            break;
+        }
         poll(NULL, 0, STEP);
     }
     errno = 0;
@@ -207,7 +213,7 @@ int run_demo(int count, char **words)
     if (read_options(count, words, options, 0, 0) < 0)
         return MISUSED;
     int code = signals_catch() ? make_files() : fail_demo("signals cannot be caught");
-    for (size_t i = 0; code == DONE && !signals_stop() && i < sizeof scenes / sizeof *scenes; i++) {
+    for (size_t i = 0; code == DONE && !signals_stop() && !ferror(stdout) && i < sizeof scenes / sizeof *scenes; i++) {
         if (scenes[i].headline)
             printf("\n== %s\n", scenes[i].headline);
         code = scenes[i].show();

@@ -46,7 +46,7 @@ content demo_flash(void)
 {
     content flash = {memory_of(FLASH), FLASH};
     und_product_header header = und_make_product_header(FIRST, SECOND);
-    memset(flash.bytes, 0xFF, FLASH);
+    memset(flash.bytes, UND_FLASH_BLANK, FLASH);
     put_code(flash.bytes, 2 * UND_FLASH_SECTOR, 0);
     put_image(flash.bytes + FIRST, 9000, 9, "1.9");
     put_image(flash.bytes + SECOND, 7000, 3, "1.2");

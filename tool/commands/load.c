@@ -22,7 +22,8 @@
 #include <time.h>
 #include <unistd.h>
 
-enum { USUAL_SECONDS = 10, PIECE = 1024, MOST_SECONDS = 86400 };
+/* SETTLES is in milliseconds. */
+enum { USUAL_SECONDS = 10, MOST_SECONDS = 86400, PIECE = 1024, SETTLES = 50 };
 
 typedef struct {
     uint32_t kind;
@@ -36,23 +37,14 @@ typedef struct {
 static const char *const check_line =
     "see that the monitor has power, the right port, kind and baud rate; reset it, then load again";
 
-static int tell_silent(const loading *l)
-{
-    return fail(check_line, "silent: what is due has not come from %s for %lu seconds", l->line.path, l->seconds);
-}
-
-static int tell_gone(const loading *l)
-{
-    return fail("plug it in again, then load again", "%s has hung up", l->line.path);
-}
-
-static int tell_event(const loading *l, line_event event)
+/* What went wrong on the line while something was `due`. */
+static int tell_event(const loading *l, line_event happened, const char *due)
 {
     errno = 0;
-    switch (event) {
+    switch (happened) {
     case LINE_OK: return DONE;
-    case LINE_QUIET: return tell_silent(l);
-    case LINE_GONE: return tell_gone(l);
+    case LINE_QUIET: return fail_silent(check_line, "silent: %s %s for %lu seconds", l->line.path, due, l->seconds);
+    case LINE_GONE: return fail("plug it in again, then load again", "%s has hung up", l->line.path);
     case LINE_SIGNALLED: break;
     }
     return fail("load again", "stopped in the middle of the load");
@@ -65,13 +57,13 @@ static int send_bytes(loading *l, const uint8_t *bytes, size_t length)
     bool bar = l->bar && length > 1;
     while (at < length) {
         size_t piece = length - at < PIECE ? length - at : PIECE;
-        line_event event = line_write(&l->line, bytes + at, piece, (int)l->seconds * 1000, &sent);
+        line_event happened = line_write(&l->line, bytes + at, piece, (int)l->seconds * 1000, &sent);
         at += sent;
         if (bar)
             show_progress(at, length);
-        if (event != LINE_OK) {
+        if (happened != LINE_OK) {
             end_progress(bar);
-            return tell_event(l, event);
+            return tell_event(l, happened, "has taken no more bytes");
         }
     }
     end_progress(bar);
@@ -91,9 +83,9 @@ static int receive_byte(loading *l, long long end, uint8_t *byte)
     size_t count = 0;
     while (count == 0) {
         long long left = end - milliseconds_now();
-        line_event event = line_read(&l->line, byte, 1, left > 0 ? (int)left : 0, &count);
-        if (event != LINE_OK)
-            return tell_event(l, event);
+        line_event happened = line_read(&l->line, byte, 1, left > 0 ? (int)left : 0, &count);
+        if (happened != LINE_OK)
+            return tell_event(l, happened, "has not sent what is due");
     }
     return DONE;
 }
@@ -101,7 +93,10 @@ static int receive_byte(loading *l, long long end, uint8_t *byte)
 /* The chip has sent another byte than the one that is due. */
 static int tell_other(loading *l, part due, uint8_t wanted, uint8_t got)
 {
-    log_event(&l->log, &(event){FROM_CHIP, "unexpected", &got, 1, 0, "not the byte that is due", NULL});
+    log_event(
+        &l->log,
+        &(event){
+            .from = FROM_CHIP, .name = "unexpected", .bytes = &got, .count = 1, .words = "not the byte that is due"});
     if (due == CHECKSUM) {
         uint8_t nak = UND_LINE_NAK;
         send_bytes(l, &nak, 1);
@@ -110,19 +105,19 @@ static int tell_other(loading *l, part due, uint8_t wanted, uint8_t got)
                            got, wanted);
     }
     if (got == UND_LINE_NAK)
-        return refuse_line("load a smaller code, or see whether the chip is of the other kind",
+        return refuse_line("load a smaller code, or see whether the chip is of the other kind; reset it first",
                            "refused: the chip does not take a header for a code of this length");
     return refuse_line(check_line, "refused: the chip has answered the header with %02X", got);
 }
 
-/* Takes bytes that wait already: they are older than anything that this load has sent. `byte` becomes the last. Gives
-   how many there are. */
-static size_t take_older(loading *l, long long end, uint8_t *byte)
+/* Takes bytes that were sent before anything of this load was: those that wait already, and where the line is not
+   clean, those that come shortly after. `byte` becomes the last. Gives how many there are. */
+static size_t take_older(loading *l, long long end, bool clean, uint8_t *byte)
 {
     size_t all = 0, count = 1;
     while (count > 0 && milliseconds_now() < end) {
         uint8_t next;
-        line_read(&l->line, &next, 1, 0, &count);
+        line_read(&l->line, &next, 1, clean && all == 0 ? 0 : SETTLES, &count);
         if (count > 0)
             *byte = next;
         all += count;
@@ -139,7 +134,7 @@ static int await_byte(loading *l, part due, uint8_t wanted)
         uint8_t got;
         int code = receive_byte(l, end, &got);
         if (code == DONE && due == GREETING)
-            passed += take_older(l, end, &got);
+            passed += take_older(l, end, passed == 0 && got == wanted, &got);
         bool other = code == DONE && got != wanted;
         if (other && (due == GREETING || (due == HEADER_ANSWER && got == UND_LINE_GREETING)))
             continue;
@@ -159,7 +154,7 @@ static int follow(loading *l, session *twin, story *told, size_t *at)
     memcpy(before, twin->record, sizeof before);
     und_report r = session_turn(twin, l->frame.bytes + *at, l->frame.length - *at, &reply, 1);
     if (r.number != 0)
-        return refuse(r.number, "%s", "");
+        return refuse(r.number, "in the middle of a load");
     int code = now.sends ? await_byte(l, now.part, reply) : send_bytes(l, l->frame.bytes + *at, r.taken);
     if (code == DONE)
         story_turn(told, before, twin->record, now.sends ? &reply : l->frame.bytes + *at, r.sent + r.taken);
@@ -200,10 +195,8 @@ static bool read_load_options(int count, char **words, loading *l, const char **
         misuse("--port DEVICE is missing: the line to the monitor");
         return false;
     }
-    if (!line_has_baud(*baud)) {
-        misuse("this system has no baud rate %lu", *baud);
+    if (!is_baud(*baud))
         return false;
-    }
     if (l->seconds == 0 || l->seconds > MOST_SECONDS) {
         misuse("--wait is from 1 to %d seconds", MOST_SECONDS);
         return false;
@@ -226,6 +219,7 @@ int run_load(int count, char **words)
     l.log.json = say_json;
     if (!log_open(&l.log))
         return fail("give --log a file that you may write to", "%s cannot be written", l.log.path);
+    log_sayings(&l.log);
     if (!line_open(&l.line, port, baud))
         return fail("plug the adapter in, see which device it is, and that you may use it", "%s cannot be opened",
                     port);

@@ -18,98 +18,118 @@ enum { BLANK = '.', USED = 'o', HEADER = 'H', INVALID = '!', SHARED = '+' };
 
 static bool is_blank(const uint8_t *sector)
 {
-    return sector[0] == 0xFF && memcmp(sector, sector + 1, UND_FLASH_SECTOR - 1) == 0;
+    return sector[0] == UND_FLASH_BLANK && memcmp(sector, sector + 1, UND_FLASH_SECTOR - 1) == 0;
 }
+
+/* The signs of all sectors, and which of them the image that starts touches. */
+typedef struct {
+    size_t count;
+    char *signs;
+    bool *starts;
+} sectors;
 
 /* Draws `sign` over the sectors that bytes first to last touch. */
-static void draw(char *cells, size_t sectors, uint64_t first, uint64_t last, char sign)
+static void draw(sectors *s, uint64_t first, uint64_t last, char sign, bool starts)
 {
-    for (uint64_t i = first / UND_FLASH_SECTOR; i <= last / UND_FLASH_SECTOR && i < sectors; i++)
-        cells[i] = cells[i] == BLANK || cells[i] == USED ? sign : SHARED;
+    for (uint64_t i = first / UND_FLASH_SECTOR; i <= last / UND_FLASH_SECTOR && i < s->count; i++) {
+        s->signs[i] = s->signs[i] == BLANK || s->signs[i] == USED ? sign : SHARED;
+        s->starts[i] = s->starts[i] || starts;
+    }
 }
 
-static void draw_image(char *cells, size_t sectors, const flash_view *v, int slot)
+static void draw_image(sectors *s, const flash_view *v, uint32_t slot)
 {
     const und_image *image = &v->images[slot - 1];
     uint64_t first = v->offsets[slot - 1];
     uint64_t last = image->rule ? first : (uint64_t)image->code_place + image->size - 1;
-    draw(cells, sectors, first, last, image->rule ? INVALID : (char)('0' + slot));
+    draw(s, first, last, image->rule ? INVALID : (char)('0' + slot), v->selected.slot == slot);
 }
 
-static char *cells_of(const flash_view *v, size_t sectors)
+static sectors sectors_of(const flash_view *v)
 {
-    char *cells = memory_of(sectors + 1);
-    for (size_t i = 0; i < sectors; i++)
-        cells[i] = is_blank(v->flash.bytes + i * UND_FLASH_SECTOR) ? BLANK : USED;
+    sectors s = {.count = v->flash.length / UND_FLASH_SECTOR};
+    s.signs = memory_of(s.count + 1);
+    s.starts = memory_of(s.count * sizeof *s.starts);
+    for (size_t i = 0; i < s.count; i++)
+        s.signs[i] = is_blank(v->flash.bytes + i * UND_FLASH_SECTOR) ? BLANK : USED;
     if (v->product.number == 0) {
-        draw(cells, sectors, v->header, v->header + sizeof((und_product_header *)0)->bytes - 1, HEADER);
-        draw_image(cells, sectors, v, 1);
-        draw_image(cells, sectors, v, 2);
+        draw(&s, v->header, v->header + sizeof((und_product_header *)0)->bytes - 1, HEADER, false);
+        draw_image(&s, v, 1);
+        draw_image(&s, v, 2);
     }
-    return cells;
+    return s;
 }
 
-static const char *colour_of(char cell, uint32_t slot)
+static void free_sectors(sectors *s)
 {
-    if (cell == BLANK)
-        return "\033[2m";
-    if (cell == INVALID)
-        return "\033[31m";
-    if (slot && cell == (char)('0' + slot))
+    free(s->signs);
+    free(s->starts);
+}
+
+static const char *colour_of(char sign, bool starts)
+{
+    if (starts)
         return "\033[1;32m";
-    return cell == HEADER ? "\033[1m" : "";
+    return sign == BLANK ? "\033[2m" : sign == INVALID ? "\033[31m" : sign == HEADER ? "\033[1m" : "";
 }
 
-static void print_row(const char *cells, size_t count, uint32_t slot, bool colours)
+static void print_row(const sectors *s, size_t at, size_t count, bool colours)
 {
-    for (size_t i = 0; i < count; i++) {
+    printf("  0x%06zX  ", at * UND_FLASH_SECTOR);
+    for (size_t i = at; i < at + count; i++) {
         if (colours)
-            printf("%s%c\033[0m", colour_of(cells[i], slot), cells[i]);
+            printf("%s%c\033[0m", colour_of(s->signs[i], s->starts[i]), s->signs[i]);
         else
-            putchar(cells[i]);
+            putchar(s->signs[i]);
     }
+    printf("\n");
 }
 
-/* Under a row, the sectors of the image that starts. */
-static void print_marks(const char *cells, size_t count, uint32_t slot)
+/* Under a row, the sectors of the image that starts; the word stands where there is room. */
+static void print_marks(const bool *starts, size_t count)
 {
-    char marks[CELLS + 1] = {0}, sign = (char)('0' + slot);
-    const char *first = slot ? memchr(cells, sign, count) : NULL;
-    if (!first)
+    static const char word[] = "starts";
+    char marks[CELLS + 1] = {0};
+    size_t first = count, end = 0;
+    for (size_t i = 0; i < count; i++) {
+        marks[i] = starts[i] ? '^' : ' ';
+        first = starts[i] && i < first ? i : first;
+        end = starts[i] ? i + 1 : end;
+    }
+    if (end == 0)
         return;
-    for (size_t i = 0; i < count; i++)
-        marks[i] = cells[i] == sign ? '^' : ' ';
-    while (strlen(marks) > 0 && marks[strlen(marks) - 1] == ' ')
-        marks[strlen(marks) - 1] = 0;
-    printf("            %s starts\n", marks);
+    marks[end] = 0;
+    bool before = end + sizeof word > CELLS && first >= sizeof word;
+    if (before)
+        memcpy(marks + first - sizeof word, word, sizeof word - 1);
+    printf("            %s%s%s\n", marks, before ? "" : " ", before ? "" : word);
 }
 
 /* On standard output, in colours where that is a terminal. */
 static void print_map(const flash_view *v)
 {
-    size_t sectors = v->flash.length / UND_FLASH_SECTOR;
     bool colours = isatty(STDOUT_FILENO) && !getenv("NO_COLOR");
-    char *cells = cells_of(v, sectors);
-    printf("%s: %zu bytes, %zu sectors of %d, a sign for each\n\n", v->path, v->flash.length, sectors,
+    sectors s = sectors_of(v);
+    printf("%s: %zu bytes, %zu sectors of %d, a sign for each\n\n", v->path, v->flash.length, s.count,
            UND_FLASH_SECTOR);
-    for (size_t at = 0; at < sectors; at += CELLS) {
-        size_t count = sectors - at < CELLS ? sectors - at : CELLS;
-        printf("  0x%06zX  ", at * UND_FLASH_SECTOR);
-        print_row(cells + at, count, v->selected.slot, colours);
-        printf("\n");
-        print_marks(cells + at, count, v->selected.slot);
+    for (size_t at = 0; at < s.count; at += CELLS) {
+        size_t count = s.count - at < CELLS ? s.count - at : CELLS;
+        print_row(&s, at, count, colours);
+        print_marks(s.starts + at, count);
     }
-    printf("\n  %c blank   %c used   %c product header   1 2 images   %c image that is not valid   %c shared\n", BLANK,
-           USED, HEADER, INVALID, SHARED);
-    free(cells);
+    printf("\n  %c blank   %c used   %c product header   1 image 1   2 image 2\n", BLANK, USED, HEADER);
+    printf("  %c image that is not valid   %c shared by two of these\n", INVALID, SHARED);
+    free_sectors(&s);
 }
 
 static void print_map_json(const flash_view *v)
 {
-    size_t sectors = v->flash.length / UND_FLASH_SECTOR;
-    char *cells = cells_of(v, sectors);
-    printf("{\"sectors\":%zu,\"cells\":\"%s\",\"slot\":%u}\n", sectors, cells, v->selected.slot);
-    free(cells);
+    sectors s = sectors_of(v);
+    text t = {0};
+    add_view_json(&t, v);
+    printf("{%s,\"sectors\":%zu,\"cells\":\"%s\"}\n", t.chars, s.count, s.signs);
+    text_free(&t);
+    free_sectors(&s);
 }
 
 int run_map(int count, char **words)

@@ -102,7 +102,7 @@ int run_offer(int count, char **words)
         print_files(files);
     if (offered.number != 0) {
         say_json = false;
-        return refuse(offered.number, "%s", "what is wrong with each file is said above");
+        return refuse(offered.number, "%s, %s", files[0].path, files[1].path);
     }
     if (!say_json)
         print_offer(files, offered);

@@ -1,6 +1,7 @@
 #include "options.h"
 
 #include "exits.h"
+#include "line.h"
 #include "undalisho.h"
 
 #include <errno.h>
@@ -37,13 +38,16 @@ static bool read_number(const char *word, unsigned long *number)
     return errno == 0 && *end == 0 && end != word;
 }
 
-/* Whether a word is this option, as "--ram" or "--ram=VALUE"; `value` is then NULL or the value. */
+/* Whether a word is this option, as "--ram", "--ram=VALUE" or "-oVALUE"; `value` is then NULL or the value. */
 static bool is_option(const char *word, const char *name, const char **value)
 {
     size_t length = strlen(name);
     if (strncmp(word, name, length) != 0)
         return false;
-    *value = word[length] == '=' ? word + length + 1 : NULL;
+    if (word[length] == 0)
+        *value = NULL;
+    else
+        *value = name[1] != '-' ? word + length : word[length] == '=' ? word + length + 1 : NULL;
     return word[length] == 0 || *value;
 }
 
@@ -109,6 +113,15 @@ int read_options(int count, char **words, const option *options, int least, int 
     else
         misuse("something is missing");
     return -1;
+}
+
+bool is_baud(unsigned long baud)
+{
+    char known[128];
+    if (line_has_baud(baud, known))
+        return true;
+    misuse("--baud is one of%s, not %lu", known, baud);
+    return false;
 }
 
 bool read_kind(const char *word, uint32_t *kind)

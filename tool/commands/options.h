@@ -32,6 +32,9 @@ int misuse(const char *format, ...);
 /* The command that is being run, for its usage line. */
 extern const command *current_command;
 
+/* Whether a port can have this baud rate; says so if not. */
+bool is_baud(unsigned long baud);
+
 /* Reads "p" or "e" into a kind of receiver. */
 bool read_kind(const char *word, uint32_t *kind);
 

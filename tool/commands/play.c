@@ -54,10 +54,8 @@ static bool is_sound(const char *what, const play_options *o, monitor *m)
         misuse("--kind and --then-uartboot go with 'play rom'");
         return false;
     }
-    if (!line_has_baud(o->baud)) {
-        misuse("this system has no baud rate %lu", o->baud);
+    if (!is_baud(o->baud))
         return false;
-    }
     if (o->port && o->link) {
         misuse("--link goes with a pseudo-terminal, not with --port");
         return false;
@@ -78,27 +76,36 @@ static content zeros(unsigned long length, size_t most)
     return filled(length > most ? most + 1 : length, 0);
 }
 
+/* The flash: the file's bytes, or blank ones. */
+static int lend_flash(monitor *m, const play_options *o)
+{
+    session *s = &m->session;
+    errno = 0;
+    if (!o->flash)
+        s->flash = filled(USUAL_FLASH, UND_FLASH_BLANK);
+    else if (!kept_open(&m->flash_file, o->flash, UND_FLASH_MAX, &s->flash)) {
+        if (errno == EBUSY)
+            return fail("end the other player, or take a copy of the file", "another player keeps %s", o->flash);
+        return fail("name a file with the flash's bytes that you may write to, in a folder that you may write to",
+                    "%s cannot be opened", o->flash);
+    }
+    m->flash_kept = filled(s->flash.length, 0);
+    memcpy(m->flash_kept.bytes, s->flash.bytes, s->flash.length);
+    return DONE;
+}
+
 /* Lends RAM, work buffer and flash. Gives DONE, or the exit code after it has said what is wrong. */
 static int lend_memories(monitor *m, const play_options *o)
 {
     session *s = &m->session;
     s->ram = zeros(o->ram, UND_RAM_MAX);
     s->work = zeros(o->work, UND_WORK_MAX);
-    errno = 0;
-    if (!o->flash)
-        s->flash = filled(USUAL_FLASH, 0xFF);
-    else if (!kept_open(&m->flash_file, o->flash, UND_FLASH_MAX, &s->flash))
-        return errno == EBUSY
-                   ? fail("end the other player, or take a copy of the file", "another player keeps %s", o->flash)
-                   : fail("name a file with the flash's bytes that you may read and write, in a folder that you may "
-                          "write to",
-                          "%s cannot be opened", o->flash);
-    m->flash_kept = filled(s->flash.length, 0);
-    memcpy(m->flash_kept.bytes, s->flash.bytes, s->flash.length);
-    uint32_t number = monitor_refusal(m);
-    return number ? refuse(number, "RAM %lu bytes, work buffer %lu, flash %zu%s", o->ram, o->work, s->flash.length,
-                           s->flash.length > UND_FLASH_MAX ? " or more" : "")
-                  : DONE;
+    int code = lend_flash(m, o);
+    uint32_t number = code == DONE ? monitor_refusal(m) : 0;
+    if (number != 0)
+        code = refuse(number, "RAM %lu bytes, work buffer %lu, flash %zu%s", o->ram, o->work, s->flash.length,
+                      s->flash.length > UND_FLASH_MAX ? " or more" : "");
+    return code;
 }
 
 /* Points a link at the pseudo-terminal; an older link is replaced, any other file stays. */
@@ -137,10 +144,11 @@ static int open_log(monitor *m)
     m->log.json = say_json;
     if (!log_open(&m->log))
         return fail("give --log a file that you may write to", "%s cannot be written", m->log.path);
+    log_sayings(&m->log);
     return DONE;
 }
 
-/* Where a host finds the monitor: said even with --quiet. */
+/* Says where a host finds the monitor, even with --quiet. */
 static void announce(monitor *m, const char *what)
 {
     bool quiet = m->log.quiet;
@@ -160,19 +168,34 @@ static int save_ram(const monitor *m, const char *path)
     return DONE;
 }
 
+/* Whether a path means the flash file. */
+static bool is_flash(const char *path, const char *flash)
+{
+    struct stat one, other;
+    return path && flash && stat(path, &one) == 0 && stat(flash, &other) == 0 && one.st_ino == other.st_ino &&
+           one.st_dev == other.st_dev;
+}
+
+/* Opens all that a monitor needs. Gives DONE, or the exit code after it has said what is wrong. */
+static int prepare(monitor *m, const play_options *o)
+{
+    if (is_flash(m->log.path, o->flash) || is_flash(o->save_ram, o->flash))
+        return misuse("--log and --save-ram must not be the flash file");
+    int code = lend_memories(m, o);
+    if (code == DONE)
+        code = open_log(m);
+    if (code == DONE && !signals_catch())
+        code = fail("try again", "signals cannot be caught");
+    return code == DONE ? open_line(m, o) : code;
+}
+
 int run_play(int count, char **words)
 {
     static monitor m;
     play_options o;
     if (!read_play_options(count, words, &o, &m) || !is_sound(words[0], &o, &m))
         return MISUSED;
-    int code = lend_memories(&m, &o);
-    if (code == DONE)
-        code = open_log(&m);
-    if (code == DONE && !signals_catch())
-        code = fail("try again", "signals cannot be caught");
-    if (code == DONE)
-        code = open_line(&m, &o);
+    int code = prepare(&m, &o);
     if (code != DONE)
         return code;
     announce(&m, words[0]);

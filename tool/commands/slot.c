@@ -18,7 +18,10 @@ int run_slot(int count, char **words)
     if (code != DONE)
         return code;
     if (say_json) {
-        print_view_json(&v);
+        text t = {0};
+        add_view_json(&t, &v);
+        printf("{%s}\n", t.chars);
+        text_free(&t);
         say_json = false;
     } else {
         printf("%s: %zu bytes\n", v.path, v.flash.length);
@@ -26,5 +29,5 @@ int run_slot(int count, char **words)
         if (v.selected.number == 0)
             print_verdict(&v);
     }
-    return v.selected.number == 0 ? DONE : refuse(v.selected.number, "%s, header at 0x%05X", v.path, v.header);
+    return v.selected.number == 0 ? DONE : refuse(v.selected.number, "%s, header at 0x%05lX", v.path, v.header);
 }

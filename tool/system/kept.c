@@ -8,14 +8,7 @@
 #include <sys/stat.h>
 #include <unistd.h>
 
-/* Whether the name still means the open file: another program may have replaced it before the lock was had. */
-static bool is_current(int fd, const char *path)
-{
-    struct stat open_one, named;
-    return fstat(fd, &open_one) == 0 && stat(path, &named) == 0 && open_one.st_ino == named.st_ino &&
-           open_one.st_dev == named.st_dev;
-}
-
+/* Opens the file that the path means, locked. */
 static int open_locked(const char *path)
 {
     for (;;) {
@@ -26,7 +19,7 @@ static int open_locked(const char *path)
         errno = EINVAL;
         bool regular = fstat(fd, &there) == 0 && S_ISREG(there.st_mode);
         bool locked = regular && lock_file(fd);
-        if (locked && is_current(fd, path))
+        if (locked && is_named(fd, path))
             return fd;
         int reason = errno;
         close(fd);

@@ -7,6 +7,7 @@
 #include <errno.h>
 #include <fcntl.h>
 #include <poll.h>
+#include <stdio.h>
 #include <stdlib.h>
 #include <string.h>
 #include <termios.h>
@@ -21,7 +22,7 @@ typedef struct {
 } speed_row;
 
 static const speed_row speeds[] = {
-    {9600, B9600},       {19200, B19200}, {38400, B38400},
+    {1200, B1200},       {2400, B2400}, {4800, B4800}, {9600, B9600}, {19200, B19200}, {38400, B38400},
 #ifdef B57600
     {57600, B57600},
 #endif
@@ -50,8 +51,12 @@ static const speed_row *find_speed(unsigned long baud)
     return NULL;
 }
 
-bool line_has_baud(unsigned long baud)
+bool line_has_baud(unsigned long baud, char known[128])
 {
+    size_t at = 0;
+    known[0] = 0;
+    for (size_t i = 0; i < sizeof speeds / sizeof *speeds && at < 100; i++)
+        at += (size_t)snprintf(known + at, 128 - at, " %lu", speeds[i].baud);
     return find_speed(baud) != NULL;
 }
 
@@ -167,7 +172,7 @@ void line_drain(line *l)
 {
     struct pollfd unread = {.fd = l->host_end, .events = POLLIN};
     if (l->host_end < 0) {
-        while (tcdrain(l->fd) != 0 && errno == EINTR) {
+        while (tcdrain(l->fd) != 0 && errno == EINTR && !signals_stop()) {
         }
         return;
     }

@@ -58,17 +58,55 @@ bool lock_file(int fd)
     return false;
 }
 
-/* Writes the new content under its own name and locks it. Gives the descriptor, or -1. */
-static int write_new(const char *name, const uint8_t *bytes, size_t length)
+bool is_named(int fd, const char *path)
 {
-    int fd = open(name, O_RDWR | O_CREAT | O_CLOEXEC | O_NOFOLLOW, 0666);
+    struct stat open_one, named;
+    return fstat(fd, &open_one) == 0 && stat(path, &named) == 0 && open_one.st_ino == named.st_ino &&
+           open_one.st_dev == named.st_dev;
+}
+
+/* Opens the file for the new content, locked. Another program may have given it its last name before the lock was had.
+ */
+static int open_new(const char *name, mode_t mode)
+{
+    for (;;) {
+        int fd = open(name, O_RDWR | O_CREAT | O_CLOEXEC | O_NOFOLLOW, mode);
+        if (fd < 0)
+            return -1;
+        bool locked = lock_file(fd);
+        if (locked && is_named(fd, name))
+            return fd;
+        int reason = errno;
+        close(fd);
+        errno = reason;
+        if (!locked)
+            return -1;
+    }
+}
+
+/* Gives the new file the old one's owner, where that is allowed, and its mode. */
+static bool take_after(int fd, const struct stat *old)
+{
+    if (fchown(fd, old->st_uid, old->st_gid) != 0) {
+        /* then it belongs to whoever has written it */
+    }
+    return fchmod(fd, old->st_mode & 07777) == 0;
+}
+
+/* Writes the new content under its own name, on the disk too. Until it is whole, only its owner may read it where
+   others could not read the old one either. Gives the descriptor, or -1. */
+static int write_new(const char *name, const struct stat *old, const uint8_t *bytes, size_t length)
+{
+    mode_t mode = old ? old->st_mode & 0600 : 0666;
+    int fd = open_new(name, mode);
     if (fd < 0)
         return -1;
-    if (lock_file(fd) && ftruncate(fd, 0) == 0 && write_all(fd, bytes, length) && fsync(fd) == 0)
+    bool written = (!old || fchmod(fd, mode) == 0) && ftruncate(fd, 0) == 0 && write_all(fd, bytes, length) &&
+                   (!old || take_after(fd, old)) && fsync(fd) == 0;
+    if (written)
         return fd;
     int reason = errno;
-    if (reason != EBUSY)
-        unlink(name);
+    unlink(name);
     close(fd);
     errno = reason;
     return -1;
@@ -90,20 +128,11 @@ bool can_replace(const char *path)
     return can;
 }
 
-/* Gives the new file the old one's owner, where that is allowed, and its mode. */
-static bool take_after(int fd, const struct stat *old)
-{
-    if (fchown(fd, old->st_uid, old->st_gid) != 0) {
-        /* then it belongs to whoever has written it */
-    }
-    return fchmod(fd, old->st_mode & 07777) == 0;
-}
-
 int replace_file(const char *path, const struct stat *old, const uint8_t *bytes, size_t length)
 {
     char *name = new_name(path);
-    int fd = write_new(name, bytes, length);
-    if (fd >= 0 && ((old && !take_after(fd, old)) || rename(name, path) != 0)) {
+    int fd = write_new(name, old, bytes, length);
+    if (fd >= 0 && rename(name, path) != 0) {
         int reason = errno;
         unlink(name);
         close(fd);

@@ -32,9 +32,13 @@ bool signals_catch(void)
     struct sigaction action = {.sa_handler = on_signal};
     if (pipe(ends) != 0 || !prepare(ends[0]) || !prepare(ends[1]))
         return false;
-    for (unsigned i = 0; i < sizeof numbers / sizeof *numbers; i++)
-        if (sigaction(numbers[i], &action, NULL) != 0)
+    for (unsigned i = 0; i < sizeof numbers / sizeof *numbers; i++) {
+        struct sigaction old;
+        if (sigaction(numbers[i], NULL, &old) != 0)
             return false;
+        if (old.sa_handler != SIG_IGN && sigaction(numbers[i], &action, NULL) != 0)
+            return false;
+    }
     return true;
 }
 

@@ -4,7 +4,8 @@
 
 #include <stdbool.h>
 
-/* From now on SIGINT, SIGTERM and SIGHUP ask for the end, and SIGUSR1 presses the reset button. */
+/* From now on SIGINT, SIGTERM and SIGHUP ask for the end, and SIGUSR1 presses the reset button; one that is ignored
+ * stays so. */
 bool signals_catch(void);
 
 /* Readable once a signal has come. */

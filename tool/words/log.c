@@ -1,6 +1,7 @@
 #include "log.h"
 
 #include "files.h"
+#include "say.h"
 #include "signals.h"
 #include "words.h"
 
@@ -13,7 +14,7 @@
 #include <unistd.h>
 
 /* So many bytes of an event are shown to people. */
-enum { SHOWN = 12, HEX_WIDTH = 3 * SHOWN };
+enum { SHOWN = 8, HEX_WIDTH = 3 * SHOWN };
 
 bool log_open(event_log *l)
 {
@@ -85,8 +86,13 @@ static void add_for_machines(text *t, const event *e)
         text_add(t, ",\"path\":");
         text_add_json(t, e->path, strlen(e->path));
     }
-    text_add(t, ",\"words\":");
-    text_add_json(t, e->words, strlen(e->words));
+    if (e->said) {
+        text_add(t, ",");
+        add_saying(t, e->said);
+    } else {
+        text_add(t, ",\"words\":");
+        text_add_json(t, e->words, strlen(e->words));
+    }
     text_add(t, "}\n");
 }
 
@@ -120,10 +126,32 @@ void log_event(event_log *l, const event *e)
 
 void log_note(event_log *l, const char *name, const char *path, const char *format, ...)
 {
-    char words[1024];
+    text words = {0};
     va_list args;
     va_start(args, format);
-    vsnprintf(words, sizeof words, format, args);
+    text_add_args(&words, format, args);
     va_end(args);
-    log_event(l, &(event){.from = FROM_NOBODY, .name = name, .words = words, .path = path});
+    log_event(l, &(event){.from = FROM_NOBODY, .name = name, .words = words.chars, .path = path});
+    text_free(&words);
+}
+
+static event_log *sayings_log;
+
+/* People have it on standard error already. */
+static void log_saying(const saying *s)
+{
+    event_log *l = sayings_log;
+    bool quiet = l->quiet;
+    text words = {0};
+    text_add(&words, "%s (next: %s)", s->words, s->next);
+    l->quiet = !l->json;
+    log_event(l, &(event){.from = FROM_NOBODY, .name = s->name, .words = words.chars, .said = s});
+    l->quiet = quiet;
+    text_free(&words);
+}
+
+void log_sayings(event_log *l)
+{
+    sayings_log = l;
+    say_also = log_saying;
 }

@@ -2,7 +2,7 @@
 #ifndef LOG_H
 #define LOG_H
 
-#include "text.h"
+#include "say.h"
 
 #include <stdbool.h>
 
@@ -15,7 +15,8 @@ typedef struct {
     size_t count;
     uint32_t reason; /* of a refusal, else 0 */
     const char *words;
-    const char *path; /* of a file or a line that the event is about, else NULL */
+    const char *path;   /* of a file or a line that the event is about, else NULL */
+    const saying *said; /* a refusal or a failure that the program says, else NULL */
 } event;
 
 typedef struct {
@@ -32,5 +33,8 @@ void log_event(event_log *l, const event *e);
 /* An event without bytes; `path` may be NULL. */
 void log_note(event_log *l, const char *name, const char *path, const char *format, ...) LIKE_PRINTF(4, 5);
 void log_close(event_log *l);
+
+/* From now on refusals and failures that the program says become events too. */
+void log_sayings(event_log *l);
 
 #endif

@@ -9,33 +9,35 @@
 #include <string.h>
 
 bool say_json;
+void (*say_also)(const saying *s);
 
-static void add_args(text *t, const char *format, va_list args)
+void add_saying(text *t, const saying *s)
 {
-    char line[1024];
-    vsnprintf(line, sizeof line, format, args);
-    text_add(t, "%s", line);
+    text_add(t, "\"words\":");
+    text_add_json(t, s->words, strlen(s->words));
+    text_add(t, ",\"next\":");
+    text_add_json(t, s->next, strlen(s->next));
+    text_add(t, ",\"exit\":%d,\"number\":%u", s->code, s->number);
 }
 
-static void tell_json(int code, uint32_t number, const char *words, const char *next)
+static void tell_json(const saying *s)
 {
     text t = {0};
-    text_add(&t, "{\"event\":\"refused\",\"exit\":%d,\"number\":%u,\"words\":", code, number);
-    text_add_json(&t, words, strlen(words));
-    text_add(&t, ",\"next\":");
-    text_add_json(&t, next, strlen(next));
-    text_add(&t, "}\n");
-    fputs(t.chars, stdout);
+    text_add(&t, "{\"event\":\"%s\",", s->name);
+    add_saying(&t, s);
+    printf("%s}\n", t.chars);
     text_free(&t);
 }
 
-static int tell(int code, uint32_t number, const text *words, const char *next)
+static int tell(const saying *s)
 {
     fflush(stdout);
-    fprintf(stderr, "undalisho: %s\n  next: %s\n", words->chars, next);
-    if (say_json)
-        tell_json(code, number, words->chars, next);
-    return code;
+    fprintf(stderr, "undalisho: %s\n  next: %s\n", s->words, s->next);
+    if (say_also)
+        say_also(s);
+    else if (say_json)
+        tell_json(s);
+    return s->code;
 }
 
 int refuse(uint32_t number, const char *about, ...)
@@ -43,53 +45,62 @@ int refuse(uint32_t number, const char *about, ...)
     const meaning *m = meaning_of(number);
     text t = {0};
     va_list args;
-    text_add(&t, "refused, number %u: %s", number, m->what);
-    if (*about)
-        text_add(&t, " (");
+    text_add(&t, "refused, number %u: %s (", number, m->what);
     va_start(args, about);
-    add_args(&t, about, args);
+    text_add_args(&t, about, args);
     va_end(args);
-    if (*about)
-        text_add(&t, ")");
-    int code = tell(REFUSED, number, &t, m->next);
+    text_add(&t, ")");
+    int code = tell(&(saying){"refused", REFUSED, number, t.chars, m->next});
+    text_free(&t);
+    return code;
+}
+
+static int tell_args(const char *name, int code, const char *next, const char *what, va_list args)
+{
+    const char *reason = code == FAILED && errno ? strerror(errno) : "";
+    text t = {0};
+    text_add_args(&t, what, args);
+    text_add(&t, "%s%s", *reason ? ": " : "", reason);
+    tell(&(saying){name, code, 0, t.chars, next});
     text_free(&t);
     return code;
 }
 
 int refuse_line(const char *next, const char *what, ...)
 {
-    text t = {0};
     va_list args;
     va_start(args, what);
-    add_args(&t, what, args);
+    int code = tell_args("refused", REFUSED, next, what, args);
     va_end(args);
-    int code = tell(REFUSED, 0, &t, next);
-    text_free(&t);
     return code;
 }
 
 int fail(const char *next, const char *what, ...)
 {
-    const char *reason = errno ? strerror(errno) : "";
-    text t = {0};
     va_list args;
     va_start(args, what);
-    add_args(&t, what, args);
+    int code = tell_args("failed", FAILED, next, what, args);
     va_end(args);
-    if (*reason)
-        text_add(&t, ": %s", reason);
-    int code = tell(FAILED, 0, &t, next);
-    text_free(&t);
+    return code;
+}
+
+int fail_silent(const char *next, const char *what, ...)
+{
+    va_list args;
+    va_start(args, what);
+    errno = 0;
+    int code = tell_args("silent", FAILED, next, what, args);
+    va_end(args);
     return code;
 }
 
 int finish(int code)
 {
+    errno = 0;
     if (fflush(stdout) == 0 && !ferror(stdout))
         return code;
-    fprintf(stderr,
-            "undalisho: standard output could not be written: %s\n  next: see where it goes to, and whether there is "
-            "room\n",
-            strerror(errno));
+    const char *reason = errno ? strerror(errno) : "an earlier write failed";
+    fprintf(stderr, "undalisho: standard output could not be written: %s\n", reason);
+    fprintf(stderr, "  next: see where it goes to, and whether there is room\n");
     return FAILED;
 }

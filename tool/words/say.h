@@ -8,7 +8,7 @@
 #include <stdbool.h>
 #include <stdint.h>
 
-/* A refusal of the library. `about` says of what, and may be empty. */
+/* A refusal of the library. `about` says of what. */
 int refuse(uint32_t number, const char *about, ...) LIKE_PRINTF(2, 3);
 
 /* A refusal of the chip at the other end. */
@@ -17,8 +17,24 @@ int refuse_line(const char *next, const char *what, ...) LIKE_PRINTF(2, 3);
 /* A file or a line that failed; the system's reason is errno. */
 int fail(const char *next, const char *what, ...) LIKE_PRINTF(2, 3);
 
-/* Refusals are written to standard output as JSON too. */
+/* A chip that did not send, or take, what is due. */
+int fail_silent(const char *next, const char *what, ...) LIKE_PRINTF(2, 3);
+
+/* What is said is written to standard output as JSON too. */
 extern bool say_json;
+
+typedef struct {
+    const char *name; /* one word: refused, failed or silent */
+    int code;
+    uint32_t number; /* of a refusal of the library, else 0 */
+    const char *words, *next;
+} saying;
+
+/* Takes what is said as well, if it is not NULL, and then writes the JSON too. */
+extern void (*say_also)(const saying *s);
+
+/* Adds what is said as JSON's names and values, from "words" on. */
+void add_saying(text *t, const saying *s);
 
 /* Flushes standard output: gives `code`, or FAILED where it could not be written. */
 int finish(int code);

@@ -40,18 +40,24 @@ void text_add_bytes(text *t, const char *bytes, size_t count)
     t->chars[t->length] = 0;
 }
 
-void text_add(text *t, const char *format, ...)
+void text_add_args(text *t, const char *format, va_list args)
 {
-    va_list args, again;
-    va_start(args, format);
+    va_list again;
     va_copy(again, args);
     int count = vsnprintf(NULL, 0, format, args);
-    va_end(args);
     make_room(t, count > 0 ? (size_t)count : 0);
     if (count > 0)
         vsnprintf(t->chars + t->length, (size_t)count + 1, format, again);
     t->length += count > 0 ? (size_t)count : 0;
     va_end(again);
+}
+
+void text_add(text *t, const char *format, ...)
+{
+    va_list args;
+    va_start(args, format);
+    text_add_args(t, format, args);
+    va_end(args);
 }
 
 /* How many bytes the character has that begins a text in UTF-8; 0 where none does. */
@@ -79,10 +85,11 @@ void text_add_json(text *t, const char *bytes, size_t count)
     for (size_t i = 0; i < count;) {
         unsigned char c = (unsigned char)bytes[i];
         size_t length = character_length((const unsigned char *)bytes + i, count - i);
+        bool control = c < 0x20 || c == 0x7F || (length == 2 && c == 0xC2 && (unsigned char)bytes[i + 1] < 0xA0);
         if (c == '"' || c == '\\')
             text_add(t, "\\%c", c);
-        else if (length == 0 || c < 0x20 || c == 0x7F)
-            text_add(t, "\\u%04x", c);
+        else if (length == 0 || control)
+            text_add(t, "\\u%04x", length == 2 ? (unsigned char)bytes[i + 1] : c);
         else
             text_add_bytes(t, bytes + i, length);
         i += length ? length : 1;
@@ -94,13 +101,6 @@ void text_add_hex(text *t, const uint8_t *bytes, size_t count, const char *betwe
 {
     for (size_t i = 0; i < count; i++)
         text_add(t, "%s%02X", i ? between : "", bytes[i]);
-}
-
-void text_clear(text *t)
-{
-    t->length = 0;
-    if (t->room)
-        t->chars[0] = 0;
 }
 
 void text_free(text *t)

@@ -2,6 +2,7 @@
 #ifndef TEXT_H
 #define TEXT_H
 
+#include <stdarg.h>
 #include <stddef.h>
 #include <stdint.h>
 
@@ -17,15 +18,15 @@ typedef struct {
 #endif
 
 void text_add(text *t, const char *format, ...) LIKE_PRINTF(2, 3);
+void text_add_args(text *t, const char *format, va_list args);
 void text_add_bytes(text *t, const char *bytes, size_t count);
 
-/* A string in quotes as JSON has it; bytes that are not UTF-8 text are escaped as they stand. */
+/* A string in quotes as JSON has it; control characters, and bytes that are not UTF-8 text, are escaped. */
 void text_add_json(text *t, const char *bytes, size_t count);
 
 /* Bytes in hexadecimal, with `between` between them. */
 void text_add_hex(text *t, const uint8_t *bytes, size_t count, const char *between);
 
-void text_clear(text *t);
 void text_free(text *t);
 
 /* Memory of so many zero bytes; never NULL. The program ends where there is none. */

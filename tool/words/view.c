@@ -9,31 +9,34 @@
 #include <string.h>
 #include <sys/stat.h>
 
-static void view_of(flash_view *v, const char *path, content flash, uint32_t header)
+/* What the library says. An offset of more than 32 bits lies in no flash, and the largest of 32 bits neither. */
+static void ask_library(flash_view *v)
 {
-    *v = (flash_view){.path = path, .flash = flash, .header = header};
-    v->product = und_read_product(flash.bytes, flash.length, header);
-    v->selected = und_select(flash.bytes, flash.length, header);
+    uint32_t header = v->header > UINT32_MAX ? UINT32_MAX : (uint32_t)v->header;
+    v->product = und_read_product(v->flash.bytes, v->flash.length, header);
+    v->selected = und_select(v->flash.bytes, v->flash.length, header);
     if (v->product.number != 0)
         return;
     v->offsets[0] = v->product.first;
     v->offsets[1] = v->product.second;
     for (int i = 0; i < 2; i++)
-        v->images[i] = und_read_image(flash.bytes, flash.length, v->offsets[i]);
+        v->images[i] = und_read_image(v->flash.bytes, v->flash.length, v->offsets[i]);
 }
 
 int view_file(flash_view *v, const char *path, unsigned long header)
 {
-    content flash;
+    *v = (flash_view){.path = path, .header = header};
     errno = 0;
-    if (!read_file(path, UND_FLASH_MAX, &flash))
+    if (!read_file(path, UND_FLASH_MAX, &v->flash))
         return fail("name a file with the flash's bytes", "%s cannot be read", path);
-    view_of(v, path, flash, header > UINT32_MAX ? UINT32_MAX : (uint32_t)header);
-    if (v->product.number != 3)
+    ask_library(v);
+    if (v->product.number != UND_BAD_FLASH)
         return DONE;
     struct stat there;
-    long long bytes = stat(path, &there) == 0 ? (long long)there.st_size : (long long)flash.length;
-    return refuse(3, "%s has %lld bytes", path, bytes);
+    bool regular = stat(path, &there) == 0 && S_ISREG(there.st_mode);
+    long long bytes = regular ? (long long)there.st_size : (long long)v->flash.length;
+    return refuse(UND_BAD_FLASH, "%s has %s%lld bytes", path, !regular && bytes > UND_FLASH_MAX ? "at least " : "",
+                  bytes);
 }
 
 static size_t text_length(const uint8_t *field)
@@ -82,10 +85,10 @@ void add_image_json(text *t, const uint8_t *memory, const und_image *image)
 void print_images(const flash_view *v)
 {
     if (v->product.number != 0) {
-        printf("  product header at 0x%05X: %s\n", v->header, meaning_of(v->product.number)->what);
+        printf("  product header at 0x%05lX: %s\n", v->header, meaning_of(v->product.number)->what);
         return;
     }
-    printf("  product header at 0x%05X\n", v->header);
+    printf("  product header at 0x%05lX\n", v->header);
     for (uint32_t i = 0; i < 2; i++) {
         text t = {0};
         add_image(&t, v->flash.bytes, &v->images[i]);
@@ -99,7 +102,8 @@ void print_verdict(const flash_view *v)
 {
     uint32_t slot = v->selected.slot;
     if (slot == 0) {
-        printf("no slot will start: %s\n", meaning_of(v->selected.number)->what);
+        const meaning *m = meaning_of(v->selected.number);
+        printf("no slot will start: %s\n  next: %s\n", m->what, m->next);
         return;
     }
     const und_image *winner = &v->images[slot - 1], *other = &v->images[2 - slot];
@@ -112,22 +116,19 @@ void print_verdict(const flash_view *v)
         printf("both images are valid, and id %u is newer than id %u\n", winner->id, other->id);
 }
 
-void print_view_json(const flash_view *v)
+void add_view_json(text *t, const flash_view *v)
 {
-    text t = {0};
-    text_add(&t, "{\"flash\":");
-    text_add_json(&t, v->path, strlen(v->path));
-    text_add(&t, ",\"bytes\":%zu,\"header\":%u,\"slot\":%u,\"number\":%u", v->flash.length, v->header, v->selected.slot,
+    text_add(t, "\"flash\":");
+    text_add_json(t, v->path, strlen(v->path));
+    text_add(t, ",\"bytes\":%zu,\"header\":%lu,\"slot\":%u,\"number\":%u", v->flash.length, v->header, v->selected.slot,
              v->selected.number);
     if (v->selected.number != 0)
-        text_add_meaning(&t, meaning_of(v->selected.number));
-    text_add(&t, ",\"images\":[");
+        text_add_meaning(t, meaning_of(v->selected.number));
+    text_add(t, ",\"images\":[");
     for (uint32_t i = 0; i < 2 && v->product.number == 0; i++) {
-        text_add(&t, "%s{\"slot\":%u,\"offset\":%u,", i ? "," : "", i + 1, v->offsets[i]);
-        add_image_json(&t, v->flash.bytes, &v->images[i]);
-        text_add(&t, "}");
+        text_add(t, "%s{\"slot\":%u,\"offset\":%u,", i ? "," : "", i + 1, v->offsets[i]);
+        add_image_json(t, v->flash.bytes, &v->images[i]);
+        text_add(t, "}");
     }
-    text_add(&t, "]}\n");
-    fputs(t.chars, stdout);
-    text_free(&t);
+    text_add(t, "]");
 }

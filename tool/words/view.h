@@ -12,7 +12,7 @@ enum { USUAL_HEADER = 0x1F000 };
 typedef struct {
     const char *path;
     content flash;
-    uint32_t header;
+    unsigned long header; /* the product header's offset, as it was given */
     und_product product;
     und_selected selected;
     uint32_t offsets[2];
@@ -32,6 +32,8 @@ void add_image_json(text *t, const uint8_t *memory, const und_image *image);
 /* The table of images, and the slot that will start, on standard output; or why there is none. */
 void print_images(const flash_view *v);
 void print_verdict(const flash_view *v);
-void print_view_json(const flash_view *v);
+
+/* The same as JSON's names and values, without the braces around them. */
+void add_view_json(text *t, const flash_view *v);
 
 #endif
