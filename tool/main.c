@@ -56,9 +56,9 @@ static int print_help(const char *name)
     printf("undalisho: the bench tool for the serial boot line\n\n");
     for (int i = 0; i < COMMANDS; i++)
         printf("  undalisho %-6s %s\n", commands[i].name, commands[i].summary);
-    printf(
-        "\n'undalisho help COMMAND' shows a command's options. With no monitor at hand, begin with 'undalisho demo'.\n"
-        "Exit codes: 0 done, 1 refused, 2 wrong command line, 3 input or output failed.\n");
+    printf("\n'undalisho help COMMAND' shows a command's options.\n"
+           "With no monitor at hand, begin with 'undalisho demo'.\n"
+           "Exit codes: 0 done, 1 refused, 2 wrong command line, 3 input or output failed.\n");
     return DONE;
 }
 

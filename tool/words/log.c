@@ -14,7 +14,7 @@
 #include <unistd.h>
 
 /* So many bytes of an event are shown to people. */
-enum { SHOWN = 8, HEX_WIDTH = 3 * SHOWN };
+enum { SHOWN = 8, HEX_WIDTH = 3 * SHOWN - 1 };
 
 bool log_open(event_log *l)
 {
@@ -61,7 +61,7 @@ static void add_for_people(text *t, const event *e)
     if (!whole)
         text_add(&hex, " .. %02X", e->bytes[e->count - 1]);
     add_time(t, false);
-    text_add(t, " %-4s  %-*s %s\n", sender_name(e->from), HEX_WIDTH, hex.chars, e->words);
+    text_add(t, " %-4s %-*s %s\n", sender_name(e->from), HEX_WIDTH, hex.chars, e->words);
     text_free(&hex);
 }
 
