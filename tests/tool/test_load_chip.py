@@ -53,6 +53,24 @@ class ChipCase(bench.Case):
         self.chip.expect(CODE)
 
 
+class Verdicts(ChipCase):
+    def test_the_log_file_has_them(self):
+        """However a load ends, the last line of its log says so."""
+        for name, chip, code in [('silent', lambda: None, bench.FAILED), ('refused', self.refuse_header, bench.REFUSED)]:
+            with self.subTest(name):
+                self.start('--wait', '1', '--json', '--log', self.path(name))
+                chip()
+                said = bench.objects(self.ends(code, name))[-1]
+                logged = bench.objects(self.content(name).decode())[-1]
+                self.assertEqual((said['event'], logged['event'], logged['exit']), (name, name, code))
+                self.assertRegex(logged['next'], '[a-z]+ [a-z]+')
+
+    def refuse_header(self):
+        self.chip.write(b'\2')
+        self.chip.expect(FRAME[:3])
+        self.chip.write(b'\x15')
+
+
 class Chips(ChipCase):
     def test_nobody(self):
         begun = time.monotonic()
