@@ -1,5 +1,6 @@
 """The command line: help, version, and what is wrong with it."""
 import os
+import re
 import subprocess
 
 import bench
@@ -21,6 +22,16 @@ class Usage(bench.Case):
             for words in [('help', command), (command, '--help'), (command, '-h')]:
                 with self.subTest(words=words):
                     self.assertIn(f'usage: undalisho {command}', self.tool(*words).stdout)
+
+    def test_man_page(self):
+        """It has each command, each option of the help and each exit code."""
+        with open(os.path.join(os.path.dirname(__file__), '..', '..', 'tool', 'undalisho.1')) as page:
+            text = page.read().replace('\\-', '-')
+        for command in COMMANDS:
+            self.assertIn(f'undalisho {command}', text)
+            for option in re.findall('--?[a-z-]+', self.tool('help', command).stdout.partition('usage:')[2]):
+                self.assertTrue(re.search(option + r'\b', text), (command, option))
+        self.assertEqual(re.findall(r'^\.B (\d)$', text, re.MULTILINE), ['0', '1', '2', '3'])
 
     def test_version(self):
         self.assertRegex(self.tool('--version').stdout, r'^undalisho \d+(\.\d+)+\n$')

@@ -89,7 +89,7 @@ fn hand_back(report: Report, words: &mut [u32; 8]) -> Called
     called_of(report)
 }
 
-// A fresh record of a receiver: kind 0 is P, 1 is E; calls refuse any other.
+// A fresh record of a receiver: kind 0 is P, 1 is E; `und_rom_call` refuses any other.
 #[no_mangle]
 pub extern "C" fn und_rom_fresh(kind: u32, words: &mut [u32; 8])
     ensures { λ _. ⌜ now (words .exit) ≡ wordsOf (freshRecord kind) ⌝ }
