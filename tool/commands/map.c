@@ -1,9 +1,8 @@
 /* undalisho map: a picture of the flash, a sign for each sector. */
 #include "commands.h"
 #include "exits.h"
-#include "options.h"
+#include "flash_words.h"
 #include "say.h"
-#include "view.h"
 
 #include <stdbool.h>
 #include <stdio.h>
@@ -134,12 +133,8 @@ static void print_map_json(const flash_view *v)
 
 int run_map(int count, char **words)
 {
-    unsigned long header = USUAL_HEADER;
-    const option options[] = {{"--header", NUMBER, &header}, {"--json", FLAG, &say_json}, {NULL, FLAG, NULL}};
     flash_view v;
-    if (read_options(count, words, options, 1, 1) < 0)
-        return MISUSED;
-    int code = view_file(&v, words[0], header);
+    int code = read_view(count, words, &v);
     if (code != DONE)
         return code;
     if (say_json) {

@@ -1,20 +1,24 @@
 /* undalisho slot: the slot that will start, and both images. */
 #include "commands.h"
 #include "exits.h"
+#include "flash_words.h"
 #include "options.h"
 #include "say.h"
 #include "view.h"
 
 #include <stdio.h>
 
-int run_slot(int count, char **words)
+int read_view(int count, char **words, flash_view *v)
 {
     unsigned long header = USUAL_HEADER;
     const option options[] = {{"--header", NUMBER, &header}, {"--json", FLAG, &say_json}, {NULL, FLAG, NULL}};
+    return read_options(count, words, options, 1, 1) < 0 ? MISUSED : view_file(v, words[0], header);
+}
+
+int run_slot(int count, char **words)
+{
     flash_view v;
-    if (read_options(count, words, options, 1, 1) < 0)
-        return MISUSED;
-    int code = view_file(&v, words[0], header);
+    int code = read_view(count, words, &v);
     if (code != DONE)
         return code;
     if (say_json) {

@@ -1,5 +1,6 @@
 #include "kept.h"
 
+#include "lock.h"
 #include "replace.h"
 
 #include <errno.h>
@@ -8,25 +9,11 @@
 #include <sys/stat.h>
 #include <unistd.h>
 
-/* Opens the file that the path means, locked. */
-static int open_locked(const char *path)
+static bool is_regular(int fd)
 {
-    for (;;) {
-        struct stat there;
-        int fd = open(path, O_RDWR | O_CLOEXEC);
-        if (fd < 0)
-            return -1;
-        errno = EINVAL;
-        bool regular = fstat(fd, &there) == 0 && S_ISREG(there.st_mode);
-        bool locked = regular && lock_file(fd);
-        if (locked && is_named(fd, path))
-            return fd;
-        int reason = errno;
-        close(fd);
-        errno = reason;
-        if (!locked)
-            return -1;
-    }
+    struct stat there;
+    errno = EINVAL;
+    return fstat(fd, &there) == 0 && S_ISREG(there.st_mode);
 }
 
 bool kept_open(kept_file *k, const char *path, size_t most, content *c)
@@ -35,8 +22,8 @@ bool kept_open(kept_file *k, const char *path, size_t most, content *c)
     k->path = realpath(path, NULL);
     if (!k->path)
         return false;
-    k->fd = open_locked(k->path);
-    if (k->fd >= 0 && can_replace(k->path) && read_open(k->fd, most, c))
+    k->fd = open_locked(k->path, O_RDWR, 0);
+    if (k->fd >= 0 && is_regular(k->fd) && can_replace(k->path) && read_open(k->fd, most, c))
         return true;
     int reason = errno;
     kept_close(k);

@@ -1,6 +1,7 @@
 #include "replace.h"
 
 #include "files.h"
+#include "lock.h"
 #include "text.h"
 
 #include <errno.h>
@@ -48,42 +49,6 @@ static void sync_folder(const char *path)
     free(folder);
 }
 
-bool lock_file(int fd)
-{
-    struct flock whole = {.l_type = F_WRLCK, .l_whence = SEEK_SET};
-    if (fcntl(fd, F_SETLK, &whole) == 0)
-        return true;
-    if (errno == EAGAIN || errno == EACCES)
-        errno = EBUSY;
-    return false;
-}
-
-bool is_named(int fd, const char *path)
-{
-    struct stat open_one, named;
-    return fstat(fd, &open_one) == 0 && stat(path, &named) == 0 && open_one.st_ino == named.st_ino &&
-           open_one.st_dev == named.st_dev;
-}
-
-/* Opens the file for the new content, locked. Another program may have given it its last name before the lock was had.
- */
-static int open_new(const char *name, mode_t mode)
-{
-    for (;;) {
-        int fd = open(name, O_RDWR | O_CREAT | O_CLOEXEC | O_NOFOLLOW, mode);
-        if (fd < 0)
-            return -1;
-        bool locked = lock_file(fd);
-        if (locked && is_named(fd, name))
-            return fd;
-        int reason = errno;
-        close(fd);
-        errno = reason;
-        if (!locked)
-            return -1;
-    }
-}
-
 /* Gives the new file the old one's owner, where that is allowed, and its mode. */
 static bool take_after(int fd, const struct stat *old)
 {
@@ -98,7 +63,7 @@ static bool take_after(int fd, const struct stat *old)
 static int write_new(const char *name, const struct stat *old, const uint8_t *bytes, size_t length)
 {
     mode_t mode = old ? old->st_mode & 0600 : 0666;
-    int fd = open_new(name, mode);
+    int fd = open_locked(name, O_RDWR | O_CREAT | O_NOFOLLOW, mode);
     if (fd < 0)
         return -1;
     bool written = (!old || fchmod(fd, mode) == 0) && ftruncate(fd, 0) == 0 && write_all(fd, bytes, length) &&

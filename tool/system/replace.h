@@ -15,10 +15,4 @@ int replace_file(const char *path, const struct stat *old, const uint8_t *bytes,
 /* Whether new content may be written beside the file. On failure errno says why. */
 bool can_replace(const char *path);
 
-/* Whether the path still means the open file: another program may have replaced it. */
-bool is_named(int fd, const char *path);
-
-/* Locks a whole file. On failure errno says why; EBUSY: another program has locked it. */
-bool lock_file(int fd);
-
 #endif

@@ -1,0 +1,11 @@
+/* The command line of those that show a flash. */
+#ifndef FLASH_WORDS_H
+#define FLASH_WORDS_H
+
+#include "view.h"
+
+/* Reads FLASH [--header OFFSET] [--json], and the flash. Gives DONE, or the exit code after it has said what is wrong.
+ */
+int read_view(int count, char **words, flash_view *v);
+
+#endif

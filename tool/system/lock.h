@@ -1,0 +1,11 @@
+/* Files that only one program may have open. */
+#ifndef LOCK_H
+#define LOCK_H
+
+#include <sys/types.h>
+
+/* Opens the file that the path means, as open does, and locks it whole. Gives the descriptor, or -1. On failure errno
+   says why; EBUSY: another program has locked it. */
+int open_locked(const char *path, int flags, mode_t mode);
+
+#endif
