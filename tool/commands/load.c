@@ -22,8 +22,8 @@
 #include <time.h>
 #include <unistd.h>
 
-/* SETTLES is in milliseconds. */
-enum { USUAL_SECONDS = 10, MOST_SECONDS = 86400, PIECE = 1024, SETTLES = 50 };
+/* In milliseconds: when a line that is not clean has settled, and how soon a chip greets that is new. */
+enum { USUAL_SECONDS = 10, MOST_SECONDS = 86400, PIECE = 1024, SETTLES = 50, SOON = 1000 };
 
 typedef struct {
     uint32_t kind;
@@ -32,6 +32,7 @@ typedef struct {
     event_log log;
     unsigned long seconds; /* how long the chip may be silent */
     bool bar;              /* a progress bar is shown */
+    bool waiting;          /* that it waits was said */
 } loading;
 
 static const char *const check_line =
@@ -77,14 +78,26 @@ static long long milliseconds_now(void)
     return (long long)now.tv_sec * 1000 + now.tv_nsec / 1000000;
 }
 
+/* Nothing has come for a while: says once what is waited for. */
+static void tell_waiting(loading *l)
+{
+    if (!l->waiting)
+        log_note(&l->log, "waiting", l->line.path, "waiting for the greeting on %s; if it stays so, reset the monitor",
+                 l->line.path);
+    l->waiting = true;
+}
+
 /* Waits for a byte from the chip until `end`. */
-static int receive_byte(loading *l, long long end, uint8_t *byte)
+static int receive_byte(loading *l, part due, long long end, uint8_t *byte)
 {
     size_t count = 0;
     while (count == 0) {
         long long left = end - milliseconds_now();
-        line_event happened = line_read(&l->line, byte, 1, left > 0 ? (int)left : 0, &count);
-        if (happened != LINE_OK)
+        bool may_tell = due == GREETING && !l->waiting && left > SOON;
+        line_event happened = line_read(&l->line, byte, 1, may_tell ? SOON : left > 0 ? (int)left : 0, &count);
+        if (happened == LINE_QUIET && may_tell)
+            tell_waiting(l);
+        else if (happened != LINE_OK)
             return tell_event(l, happened, "has not sent what is due");
     }
     return DONE;
@@ -132,7 +145,7 @@ static int await_byte(loading *l, part due, uint8_t wanted)
     size_t passed = 0;
     for (;; passed++) {
         uint8_t got;
-        int code = receive_byte(l, end, &got);
+        int code = receive_byte(l, due, end, &got);
         if (code == DONE && due == GREETING)
             passed += take_older(l, end, passed == 0 && got == wanted, &got);
         bool other = code == DONE && got != wanted;
