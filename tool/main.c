@@ -81,8 +81,8 @@ static int run(int argc, char **argv)
     return current_command->run(argc - 2, argv + 2);
 }
 
-/* A descriptor of 0 to 2 that is closed would be taken by the next file that is opened, and what is said would go
- * there. */
+/* A closed descriptor of 0 to 2 would become that of the next file, and what is said would go there. It is opened the
+   other way round, so that using it still fails. */
 static bool descriptors_are_open(void)
 {
     for (int fd = 0; fd <= 2; fd++)

@@ -79,16 +79,30 @@ class Demo(bench.Case):
         """Neither files nor a monitor are left."""
         for number in (signal.SIGTERM, signal.SIGINT):
             with self.subTest(signal=number.name):
-                pipes = {'stdout': subprocess.PIPE, 'stderr': subprocess.PIPE}
-                process = subprocess.Popen([bench.PROGRAM, 'demo'], env=self.environment, **pipes)
-                self.addCleanup(process.kill)
-                while b'play rom' not in process.stdout.readline():
-                    pass
-                process.send_signal(number)
-                _, errors = process.communicate(timeout=bench.SECONDS)  # ends only when the monitor's output is closed too
-                self.assertNotEqual(process.returncode, 0)
-                self.check_complaint(errors.decode())
+                bench.wait_until(lambda number=number: self.is_stopped(number), 'a demo is stopped before its end')
                 self.assertEqual(os.listdir(self.temporary), [])
+
+    def is_stopped(self, number):
+        """Whether the signal came before the demo was over."""
+        pipes = {'stdout': subprocess.PIPE, 'stderr': subprocess.PIPE}
+        process = subprocess.Popen([bench.PROGRAM, 'demo'], env=self.environment, **pipes)
+        self.addCleanup(process.kill)
+        for line in process.stdout:
+            if b'play rom' in line:
+                process.send_signal(number)
+                break
+        rest, errors = process.communicate(timeout=bench.SECONDS)  # ends only when the monitor's output is closed too
+        if process.returncode == bench.DONE:
+            self.assertIn(b'slot 2 will start', rest)
+            return False
+        self.assertEqual(process.returncode, bench.FAILED)
+        self.check_complaint(errors.decode())
+        self.assertIn(b'the demo was stopped', errors)
+        return True
+
+    def test_relative_folder(self):
+        self.tool('demo', env={**os.environ, 'TMPDIR': '.'})
+        self.assertEqual([name for name in os.listdir(self.folder) if name.startswith('undalisho')], [])
 
     def test_read_only_folder(self):
         os.chmod(self.temporary, 0o555)

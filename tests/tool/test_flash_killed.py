@@ -75,11 +75,11 @@ class AnyMoment(FlashCase):
                 data = model.noise(5000, rng.randrange(100))
                 yield model.DIRECT_WRITE, model.store_payload(rng.randrange(LENGTH - 5000), data, 0)
 
-    def round(self, rng):
+    def round(self, rng, longest):
         """Gives how many commands the host was told are done."""
         host = self.play()
         states = [bytes(host.memories.flash)]
-        killer = threading.Timer(rng.uniform(0, 0.06), self.player.process.kill)
+        killer = threading.Timer(rng.uniform(0, longest), self.player.process.kill)
         killer.start()
         told = 0
         for opcode, payload in self.commands(rng):
@@ -96,13 +96,25 @@ class AnyMoment(FlashCase):
         self.assertIn(self.content(self.flash), states[told:told + 2], f'after {told} commands that the host was told are done')
         return told
 
+    def seconds_of_a_command(self):
+        host = self.play()
+        begun = time.monotonic()
+        host.do(model.CHIP_ERASE)
+        host.do(model.DIRECT_WRITE, model.store_payload(0, b'data', 0))
+        taken = time.monotonic() - begun
+        self.player.end()
+        return taken / 2
+
     def test_rounds(self):
         rng = random.Random(1)
-        end = time.monotonic() + 20
-        rounds = [self.round(rng) for _ in range(30) if time.monotonic() < end]
+        end = time.monotonic() + 40
+        longest = 6 * self.seconds_of_a_command()
+        rounds = [self.round(rng, longest) for _ in range(30) if time.monotonic() < end]
         self.assertGreaterEqual(len(rounds), 10)
-        self.assertGreater(sum(rounds), 10)
-        self.play().do(model.CHIP_ERASE)
+        self.assertGreater(sum(rounds), 0)
+        host = self.play()
+        host.do(model.CHIP_ERASE)
+        host.do(model.DIRECT_WRITE, model.store_payload(0, b'data', 1))
         self.player.end()
         self.alone()
 

@@ -32,7 +32,8 @@ class ChipCase(bench.Case):
 
     def has_port(self):
         folder = f'/proc/{self.process.pid}/fd'
-        return any(os.path.realpath(os.path.join(folder, fd)) == self.port for fd in os.listdir(folder))
+        ended = self.process.poll() is not None
+        return ended or any(os.path.realpath(os.path.join(folder, fd)) == self.port for fd in os.listdir(folder))
 
     def stop(self):
         self.process.kill()
@@ -69,6 +70,27 @@ class Verdicts(ChipCase):
         self.chip.write(b'\2')
         self.chip.expect(FRAME[:3])
         self.chip.write(b'\x15')
+
+
+class Waiting(ChipCase):
+    def test_a_chip_that_comes_late(self):
+        self.start('--wait', '20', '--json', '--log', self.path('log'))
+        bench.wait_until(lambda: b'"waiting"' in self.content('log'), 'load says what it waits for')
+        self.take_code()
+        self.chip.write(bytes([model.xor(CODE)]))
+        self.chip.expect(b'\6')
+        told = [event['event'] for event in bench.objects(self.ends(bench.DONE))]
+        self.assertEqual((told[0], told[-1], told.count('waiting')), ('waiting', 'running', 1))
+
+    def test_stopped(self):
+        for number in (signal.SIGINT, signal.SIGTERM):
+            self.start('--json', '--log', self.path('log'))
+            self.chip.write(b'\2')
+            self.chip.expect(FRAME[:3])
+            self.process.send_signal(number)
+            said = bench.objects(self.ends(bench.FAILED, 'stopped'))[-1]
+            logged = bench.objects(self.content('log').decode())[-1]
+            self.assertEqual((said['event'], logged['event'], said['exit']), ('failed', 'failed', bench.FAILED))
 
 
 class Chips(ChipCase):

@@ -56,6 +56,14 @@ class Link(bench.Case):
         again.end()
         self.assertFalse(os.path.lexists(player.port))
 
+    def test_a_link_to_anything_else_stays(self):
+        os.mkdir(self.path('folder'))
+        for target in ['folder', self.file('file', b'mine')]:
+            os.symlink(target, self.path('mine'))
+            self.failed('play', 'uartboot', '--link', self.path('mine'))
+            self.assertEqual(os.readlink(self.path('mine')), target)
+            os.unlink(self.path('mine'))
+
     def test_a_link_that_others_have_taken_over_stays(self):
         first = Player(self, 'uartboot')
         second = Player(self, 'uartboot', link=first.port)

@@ -32,6 +32,12 @@ class Offer(OfferCase):
                 self.assertEqual(answer['installed']['version'], installed.decode())
                 self.assertEqual(answer['candidate']['version'], candidate.decode())
 
+    def test_code_to_a_link_to_nowhere(self):
+        self.files()
+        os.symlink('nowhere', self.path('out'))
+        self.tool('offer', self.installed, self.candidate, '-o', 'out', code=bench.FAILED)
+        self.assertEqual(os.readlink(self.path('out')), 'nowhere')
+
     def test_refusals(self):
         good, bad, odd = file_of(b'1.0', 1), file_of(b'2.0', 2, flag=0), file_of(b'v2', 3)
         cases = [(bad, good, 62), (bad, bad, 62), (bad, odd, 62), (good, bad, 63), (odd, bad, 63), (odd, good, 61), (good, odd, 61)]

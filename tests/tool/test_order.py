@@ -37,7 +37,8 @@ class Order(bench.Case):
         self.refused(61, 'order', '1.0', '--', '-1')
 
     def test_json_goes_anywhere(self):
-        self.assertEqual(bench.objects(self.tool('order', '--json', '1', '2').stdout)[0]['order'], -1)
+        for words in [('1', '--json', '2'), ('1', '2', '--json')]:
+            self.assertEqual(bench.objects(self.tool('order', *words).stdout)[0]['order'], -1)
 
 
 if __name__ == '__main__':

@@ -23,14 +23,16 @@ class Descriptors(bench.Case):
         for fds in [(1,), (2,), (1, 2), (0, 1, 2)]:
             with self.subTest(closed=fds):
                 player = subprocess.Popen([bench.PROGRAM, 'play', 'uartboot', '--flash', flash, '--link', 'line'],
-                                          cwd=self.folder, preexec_fn=closing(*fds))
+                                          cwd=self.folder, stdout=subprocess.DEVNULL, stderr=subprocess.DEVNULL,
+                                          preexec_fn=closing(*fds))
                 bench.wait_until(lambda: os.path.lexists(self.path('line')), 'the player begins')
                 player.terminate()
                 self.assertIn(player.wait(bench.SECONDS), (bench.DONE, bench.FAILED))
                 self.assertEqual(self.content(flash), model.flash(0x2000))
 
     def test_answer_that_cannot_be_written(self):
-        done = subprocess.run([bench.PROGRAM, 'order', '1', '2'], preexec_fn=closing(1), timeout=bench.SECONDS)
+        done = subprocess.run([bench.PROGRAM, 'order', '1', '2'], stderr=subprocess.DEVNULL, preexec_fn=closing(1),
+                              timeout=bench.SECONDS)
         self.assertEqual(done.returncode, bench.FAILED)
 
 
@@ -48,8 +50,11 @@ class OneFile(bench.Case):
         os.link(flash, self.path('other'))
         for option in ['--log', '--save-ram']:
             for name in ['flash.bin', 'other']:
-                self.misused('play', 'uartboot', '--flash', flash, option, name, about='flash file')
+                self.misused('play', 'uartboot', '--flash', flash, option, name, about='same file')
         self.assertEqual(self.content(flash), model.flash(0x2000))
+
+    def test_log_as_ram(self):
+        self.misused('play', 'uartboot', '--log', 'one', '--save-ram', 'one', about='same file')
 
 
 class Writers(bench.Case):

@@ -35,19 +35,29 @@ static bool is_running(const monitor *m)
     return phase_of(m->session.record).part == RUNNING;
 }
 
-/* Puts the flash into its file if it has changed since. What a host is told comes after that. */
-static int keep_flash(monitor *m)
+/* Puts the flash into its file if it has changed since. What a host is told comes after that. `bytes` are those on
+   which the command was carried out. */
+static int keep_flash(monitor *m, const uint8_t *bytes, size_t count)
 {
     content *flash = &m->session.flash;
-    if (!m->flash_file.path || memcmp(flash->bytes, m->flash_kept.bytes, flash->length) == 0)
+    const char *path = m->flash_file.path;
+    if (!path || memcmp(flash->bytes, m->flash_kept.bytes, flash->length) == 0)
         return DONE;
-    errno = 0;
-    if (!kept_replace(&m->flash_file, flash->bytes, flash->length))
-        return fail("make room and start again; the file is as it was before the last command, which the host was not "
-                    "told is done",
-                    "%s cannot be written", m->flash_file.path);
+    if (!kept_replace(&m->flash_file, flash->bytes, flash->length)) {
+        int reason = errno;
+        log_event(&m->log, &(event){.from = FROM_HOST,
+                                    .name = "not-kept",
+                                    .bytes = bytes,
+                                    .count = count,
+                                    .words = "the command cannot be carried out: its flash cannot be kept"});
+        errno = reason;
+        return fail_errno(
+            "make room and start again; the file has the flash from before the last command, or from after it, "
+            "and the host was not told that it is done",
+            "%s cannot be written", path);
+    }
     memcpy(m->flash_kept.bytes, flash->bytes, flash->length);
-    log_note(&m->log, "flash-kept", m->flash_file.path, "flash kept in %s", m->flash_file.path);
+    log_note(&m->log, "flash-kept", path, "flash kept in %s", path);
     return DONE;
 }
 
@@ -89,10 +99,11 @@ static int turn(monitor *m, story *told, incoming *in)
     und_report r = session_turn(&m->session, in->bytes + in->at, in->end - in->at, reply, sizeof reply);
     if (r.number != 0)
         return refuse(r.number, "in the middle of a session");
-    int code = phase_of(before).part != phase_of(m->session.record).part ? keep_flash(m) : DONE;
+    const uint8_t *taken = in->bytes + in->at;
+    int code = phase_of(before).part != phase_of(m->session.record).part ? keep_flash(m, taken, r.taken) : DONE;
     if (code != DONE)
         return code;
-    story_turn(told, before, m->session.record, r.sent ? reply : in->bytes + in->at, r.sent + r.taken);
+    story_turn(told, before, m->session.record, r.sent ? reply : taken, r.sent + r.taken);
     in->at += r.taken;
     send_all(m, reply, r.sent);
     return DONE;

@@ -1,5 +1,6 @@
 #include "story.h"
 
+#include "memory.h"
 #include "words.h"
 
 #include <stdlib.h>

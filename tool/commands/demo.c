@@ -28,9 +28,12 @@ static char flash[] = "flash.bin", package[] = "package.bin", visit[] = "visit.b
 static char *folder; /* NULL until it is made */
 static pid_t monitor;
 
+static const char *const next_step = "see that $TMPDIR, or else /tmp, has room, and that there are pseudo-terminals";
+
+/* Where the end was asked for, that is no failure of the demo's. */
 static int fail_demo(const char *what)
 {
-    return fail("see that $TMPDIR, or else /tmp, has room, and that there are pseudo-terminals", "%s", what);
+    return signals_stop() ? DONE : fail(next_step, "%s", what);
 }
 
 /* Shows a command as it would be typed. Gives how many words it has. */
@@ -57,14 +60,13 @@ static int make_files(void)
     const char *temporary = getenv("TMPDIR");
     text name = {0};
     text_add(&name, "%s/undalisho-XXXXXX", temporary && *temporary ? temporary : "/tmp");
-    errno = 0;
     if (!mkdtemp(name.chars) || chdir(name.chars) != 0)
-        return fail_demo("a folder for the demo's files cannot be made");
-    folder = name.chars;
+        return fail_errno(next_step, "a folder for the demo's files cannot be made");
+    folder = realpath(".", NULL);
     printf("The demo's files are in %s, and its commands are run there.\n", folder);
     bool made = write_and_free(flash, demo_flash()) && write_and_free(package, demo_package()) &&
                 write_and_free(visit, demo_visit());
-    return made ? DONE : fail_demo("the demo's files cannot be written");
+    return made ? DONE : fail_errno(next_step, "the demo's files cannot be written");
 }
 
 static void remove_files(void)
@@ -103,10 +105,9 @@ static int start_monitor(void)
     char *words[] = {"rom",    "--kind", "e",     "--then-uartboot", "--flash", flash,
                      "--link", port,     "--log", log_file,          "--quiet", NULL};
     int count = type("play", words, " &");
-    errno = 0;
     monitor = fork();
     if (monitor < 0)
-        return fail_demo("the monitor cannot be started");
+        return fail_errno(next_step, "the monitor cannot be started");
     if (monitor == 0)
         _exit(finish(run_play(count, words)));
     for (int waited = 0; waited < PATIENCE && !signals_stop(); waited += STEP) {
@@ -118,8 +119,7 @@ static int start_monitor(void)
         }
         poll(NULL, 0, STEP);
     }
-    errno = 0;
-    return signals_stop() ? DONE : fail_demo("the monitor does not appear");
+    return fail_demo("the monitor does not appear");
 }
 
 static int stop_monitor(void)
@@ -131,7 +131,6 @@ static int stop_monitor(void)
     while (waitpid(monitor, &status, 0) < 0 && errno == EINTR) {
     }
     monitor = 0;
-    errno = 0;
     return WIFEXITED(status) && WEXITSTATUS(status) == DONE ? DONE : fail_demo("the monitor has failed");
 }
 
@@ -161,26 +160,23 @@ static bool converse(line *l, content host, content replies)
 static int play_visit(void)
 {
     line l;
-    content host = demo_visit(), replies = demo_replies();
-    errno = 0;
-    if (!line_open(&l, port, USUAL_BAUD))
-        return fail_demo("the monitor's line cannot be opened");
+    content host, replies = demo_replies();
+    if (!read_file(visit, UND_RAM_MAX, &host) || !line_open(&l, port, USUAL_BAUD))
+        return fail_errno(next_step, "the visit or the monitor's line cannot be opened");
     printf("\n$ cat %s > %s\n", visit, port);
     fflush(stdout);
     bool same = converse(&l, host, replies);
     line_close(&l);
     free(host.bytes);
     free(replies.bytes);
-    errno = 0;
     return same ? stop_monitor() : fail_demo("the monitor does not answer as it should");
 }
 
 static int show_log(void)
 {
     content log;
-    errno = 0;
     if (!read_file(log_file, UND_FLASH_MAX, &log))
-        return fail_demo("the monitor's log cannot be read");
+        return fail_errno(next_step, "the monitor's log cannot be read");
     printf("\n$ cat %s\n", log_file);
     fwrite(log.bytes, 1, log.length, stdout);
     free(log.bytes);
@@ -210,7 +206,7 @@ int run_demo(int count, char **words)
     const option options[] = {{"--keep", FLAG, &keep}, {NULL, FLAG, NULL}};
     if (read_options(count, words, options, 0, 0) < 0)
         return MISUSED;
-    int code = signals_catch() ? make_files() : fail_demo("signals cannot be caught");
+    int code = signals_catch(false) ? make_files() : fail_errno("try again", "signals cannot be caught");
     for (size_t i = 0; code == DONE && !signals_stop() && !ferror(stdout) && i < sizeof scenes / sizeof *scenes; i++) {
         if (scenes[i].headline)
             printf("\n== %s\n", scenes[i].headline);
@@ -219,7 +215,6 @@ int run_demo(int count, char **words)
     int stopped = stop_monitor();
     if (!keep)
         remove_files();
-    errno = 0;
     if (code == DONE && signals_stop())
         return fail("run it again", "the demo was stopped");
     return code == DONE ? stopped : code;

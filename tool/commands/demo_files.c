@@ -1,5 +1,6 @@
 #include "demo_files.h"
 
+#include "memory.h"
 #include "session.h"
 #include "text.h"
 #include "undalisho.h"
@@ -8,7 +9,7 @@
 #include <stdlib.h>
 #include <string.h>
 
-/* Where source 004 puts the images of its example. */
+/* As in the example of the vendor's note on two images. */
 enum { FLASH = 0x20000, FIRST = 0x8000, SECOND = 0x13000 };
 
 /* The recorded visit copies so many bytes from behind the stand-in. */

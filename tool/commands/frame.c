@@ -1,37 +1,32 @@
 /* undalisho frame: the boot frame of a code. */
-#include "boot.h"
 #include "commands.h"
 #include "exits.h"
+#include "frame.h"
+#include "memory.h"
+#include "openings.h"
 #include "options.h"
 #include "say.h"
 #include "undalisho.h"
 
-#include <errno.h>
 #include <stdio.h>
 #include <stdlib.h>
-#include <string.h>
 
 /* What a frame may have more than its code. */
 enum { AROUND_CODE = 16 };
 
-int read_frame(const char *path, uint32_t kind, content *frame, content *code)
+int read_frame(const char *path, uint32_t kind, content *frame, size_t *code_length)
 {
     content file;
-    errno = 0;
     if (!read_file(path, UND_RAM_MAX, &file))
-        return fail("name a file with the code's bytes", "%s cannot be read", path);
+        return fail_errno("name a file with the code's bytes", "%s cannot be read", path);
     size_t room = file.length + AROUND_CODE;
     frame->bytes = memory_of(room);
     und_framed framed = kind == UND_KIND_P ? und_frame_p(file.bytes, file.length, frame->bytes, room)
                                            : und_frame_e(file.bytes, file.length, frame->bytes, room);
     frame->length = framed.length;
-    if (framed.number != 0)
-        return refuse(framed.number, "%s", path);
-    if (code)
-        *code = file;
-    else
-        free(file.bytes);
-    return DONE;
+    *code_length = file.length;
+    free(file.bytes);
+    return framed.number == 0 ? DONE : refuse(framed.number, "%s", path);
 }
 
 int run_frame(int count, char **words)
@@ -41,18 +36,16 @@ int run_frame(int count, char **words)
         {"--kind", WORD, &kind_word}, {"-o", WORD, &out}, {"--json", FLAG, &say_json}, {NULL, FLAG, NULL}};
     uint32_t kind;
     content frame;
+    size_t code_length;
     if (read_options(count, words, options, 1, 1) < 0 || !read_kind(kind_word, &kind))
         return MISUSED;
     if (!out)
         return misuse("-o FRAME is missing: where the frame goes");
-    int code = read_frame(words[0], kind, &frame, NULL);
-    if (code != DONE)
-        return code;
-    errno = 0;
-    if (!write_file(out, frame.bytes, frame.length))
-        return fail("give a place with room that you may write to; an older file there stays as it was",
-                    "%s cannot be written", out);
-    printf(say_json ? "{\"kind\":\"%s\",\"length\":%zu}\n" : "boot frame for kind %s: %zu bytes\n", kind_word,
-           frame.length);
-    return DONE;
+    int code = read_frame(words[0], kind, &frame, &code_length);
+    if (code == DONE)
+        code = write_output(out, frame.bytes, frame.length);
+    if (code == DONE && is_regular(out))
+        printf(say_json ? "{\"kind\":\"%s\",\"length\":%zu}\n" : "boot frame for kind %s: %zu bytes\n", kind_word,
+               frame.length);
+    return code;
 }

@@ -3,27 +3,33 @@
  * What the chip has to answer, and when it is its turn, comes from a receiver of the library that is fed the same
  * frame: the host sends what that one takes, and waits for what that one sends.
  */
-#include "boot.h"
 #include "commands.h"
 #include "exits.h"
-#include "files.h"
+#include "frame.h"
 #include "line.h"
 #include "log.h"
+#include "openings.h"
+#include "memory.h"
 #include "options.h"
 #include "progress.h"
 #include "say.h"
+#include "signals.h"
 #include "session.h"
 #include "story.h"
 
-#include <errno.h>
-#include <stdio.h>
 #include <stdlib.h>
 #include <string.h>
 #include <time.h>
 #include <unistd.h>
 
+/* In seconds. */
+enum { USUAL_SECONDS = 10, MOST_SECONDS = 86400 };
+
 /* In milliseconds: when a line that is not clean has settled, and how soon a chip greets that is new. */
-enum { USUAL_SECONDS = 10, MOST_SECONDS = 86400, PIECE = 1024, SETTLES = 50, SOON = 1000 };
+enum { SETTLES = 50, SOON = 1000 };
+
+/* So many bytes are sent between two looks at the bar. */
+enum { PIECE = 1024 };
 
 typedef struct {
     uint32_t kind;
@@ -41,7 +47,6 @@ static const char *const check_line =
 /* What went wrong on the line while something was `due`. */
 static int tell_event(const loading *l, line_event happened, const char *due)
 {
-    errno = 0;
     switch (happened) {
     case LINE_OK: return DONE;
     case LINE_QUIET: return fail_silent(check_line, "silent: %s %s for %lu seconds", l->line.path, due, l->seconds);
@@ -222,25 +227,24 @@ int run_load(int count, char **words)
     static loading l = {.seconds = USUAL_SECONDS};
     const char *port = NULL;
     unsigned long baud = USUAL_BAUD;
-    content code_file;
+    size_t code_length;
     if (!read_load_options(count, words, &l, &port, &baud))
         return MISUSED;
-    int code = read_frame(words[0], l.kind, &l.frame, &code_file);
+    int code = read_frame(words[0], l.kind, &l.frame, &code_length);
+    if (code == DONE)
+        code = open_log(&l.log);
+    if (code == DONE && !signals_catch(false))
+        code = fail_errno("try again", "signals cannot be caught");
+    if (code == DONE)
+        code = open_port(&l.line, port, baud);
     if (code != DONE)
         return code;
-    errno = 0;
-    l.log.json = say_json;
-    if (!log_open(&l.log))
-        return fail("give --log a file that you may write to", "%s cannot be written", l.log.path);
-    log_sayings(&l.log);
-    if (!line_open(&l.line, port, baud))
-        return fail("plug the adapter in, see which device it is, and that you may use it", "%s cannot be opened",
-                    port);
     l.bar = isatty(STDERR_FILENO) && !l.log.quiet && !say_json;
     code = load_frame(&l);
     l.log.quiet = false;
     if (code == DONE)
-        log_note(&l.log, "running", NULL, "running: %zu bytes of code, checksum right", code_file.length);
+        log_note(&l.log, "running", NULL, "running: %zu bytes of code, checksum right", code_length);
+    line_close(&l.line);
     log_close(&l.log);
     return code == DONE && l.log.failed ? FAILED : code;
 }

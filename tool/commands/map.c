@@ -1,8 +1,9 @@
 /* undalisho map: a picture of the flash, a sign for each sector. */
 #include "commands.h"
 #include "exits.h"
-#include "flash_words.h"
+#include "memory.h"
 #include "say.h"
+#include "slot.h"
 
 #include <stdbool.h>
 #include <stdio.h>

@@ -1,12 +1,12 @@
 /* undalisho offer: of two image files, the one with the higher version. */
 #include "commands.h"
 #include "exits.h"
+#include "openings.h"
 #include "options.h"
 #include "say.h"
 #include "view.h"
 #include "words.h"
 
-#include <errno.h>
 #include <stdio.h>
 #include <string.h>
 
@@ -20,12 +20,10 @@ typedef struct {
 
 static int read_image_file(offered_file *f)
 {
-    errno = 0;
     if (!read_file(f->path, LARGEST_FILE, &f->file))
-        return fail("name a file that can be read", "%s cannot be read", f->path);
-    errno = EFBIG;
+        return fail_errno("name a file that can be read", "%s cannot be read", f->path);
     if (f->file.length > LARGEST_FILE)
-        return fail("name an image file", "%s cannot be read", f->path);
+        return fail("name an image file", "%s is too large to be read", f->path);
     f->image = und_read_image(f->file.bytes, f->file.length, 0);
     return DONE;
 }
@@ -73,13 +71,10 @@ static int write_code(const char *out, const offered_file *winner, und_offered o
 {
     if (!out)
         return DONE;
-    errno = 0;
-    if (!write_file(out, winner->file.bytes + offered.place, offered.size))
-        return fail("give a place with room that you may write to; an older file there stays as it was",
-                    "%s cannot be written", out);
-    if (!say_json)
+    int code = write_output(out, winner->file.bytes + offered.place, offered.size);
+    if (code == DONE && !say_json && is_regular(out))
         printf("its code, %zu bytes, is in %s\n", offered.size, out);
-    return DONE;
+    return code;
 }
 
 int run_offer(int count, char **words)

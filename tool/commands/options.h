@@ -2,8 +2,9 @@
 #ifndef OPTIONS_H
 #define OPTIONS_H
 
+#include "text.h"
+
 #include <stdbool.h>
-#include <stddef.h>
 #include <stdint.h>
 
 typedef enum { FLAG, WORD, NUMBER } option_kind;
@@ -27,7 +28,7 @@ typedef struct {
 int read_options(int count, char **words, const option *options, int least, int most);
 
 /* What is wrong with the command line, and how the command is used. Gives the exit code. */
-int misuse(const char *format, ...);
+int misuse(const char *format, ...) LIKE_PRINTF(1, 2);
 
 /* The command that is being run, for its usage line. */
 extern const command *current_command;

@@ -1,6 +1,7 @@
 /* undalisho order: the order of two versions. */
 #include "commands.h"
 #include "exits.h"
+#include "memory.h"
 #include "options.h"
 #include "say.h"
 #include "undalisho.h"

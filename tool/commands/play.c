@@ -1,13 +1,14 @@
 /* undalisho play: the program is the monitor, until code runs. */
 #include "commands.h"
 #include "exits.h"
+#include "memory.h"
 #include "monitor.h"
+#include "openings.h"
 #include "options.h"
 #include "say.h"
 #include "signals.h"
 
 #include <errno.h>
-#include <stdio.h>
 #include <string.h>
 #include <sys/stat.h>
 #include <unistd.h>
@@ -80,14 +81,13 @@ static content zeros(unsigned long length, size_t most)
 static int lend_flash(monitor *m, const play_options *o)
 {
     session *s = &m->session;
-    errno = 0;
     if (!o->flash)
         s->flash = filled(USUAL_FLASH, UND_FLASH_BLANK);
     else if (!kept_open(&m->flash_file, o->flash, UND_FLASH_MAX, &s->flash)) {
         if (errno == EBUSY)
             return fail("end the other player, or take a copy of the file", "another player keeps %s", o->flash);
-        return fail("name a file with the flash's bytes that you may write to, in a folder that you may write to",
-                    "%s cannot be opened", o->flash);
+        return fail_errno("name a file with the flash's bytes that you may write to, in a folder that you may write to",
+                          "%s cannot be opened", o->flash);
     }
     m->flash_kept = filled(s->flash.length, 0);
     memcpy(m->flash_kept.bytes, s->flash.bytes, s->flash.length);
@@ -108,11 +108,12 @@ static int lend_memories(monitor *m, const play_options *o)
     return code;
 }
 
-/* Points a link at the pseudo-terminal; an older link is replaced, any other file stays. */
+/* Points a link at the pseudo-terminal. An older link to one, or to nothing, is replaced; any other file stays. */
 static bool make_link(const char *path, const char *target)
 {
-    struct stat there;
-    if (lstat(path, &there) == 0 && S_ISLNK(there.st_mode))
+    struct stat link, there;
+    bool is_link = lstat(path, &link) == 0 && S_ISLNK(link.st_mode);
+    if (is_link && (stat(path, &there) != 0 || S_ISCHR(there.st_mode)))
         unlink(path);
     return symlink(target, path) == 0;
 }
@@ -127,24 +128,12 @@ static void remove_link(const char *path, const char *target)
 
 static int open_line(monitor *m, const play_options *o)
 {
-    errno = 0;
-    if (o->port && !line_open(&m->line, o->port, o->baud))
-        return fail("plug the adapter in, see which device it is, and that you may use it", "%s cannot be opened",
-                    o->port);
-    if (!o->port && !line_make(&m->line))
-        return fail("use --port DEVICE", "a pseudo-terminal cannot be made");
+    if (o->port)
+        return open_port(&m->line, o->port, o->baud);
+    if (!line_make(&m->line))
+        return fail_errno("use --port DEVICE", "a pseudo-terminal cannot be made");
     if (o->link && !make_link(o->link, m->line.path))
-        return fail("give --link a path that is free", "%s cannot be made", o->link);
-    return DONE;
-}
-
-static int open_log(monitor *m)
-{
-    errno = 0;
-    m->log.json = say_json;
-    if (!log_open(&m->log))
-        return fail("give --log a file that you may write to", "%s cannot be written", m->log.path);
-    log_sayings(&m->log);
+        return fail_errno("give --link a path that is free", "%s cannot be made", o->link);
     return DONE;
 }
 
@@ -160,32 +149,27 @@ static void announce(monitor *m, const char *what)
                  m->session.flash.length);
 }
 
-static int save_ram(const monitor *m, const char *path)
+/* Whether one file is meant for two uses. */
+static bool is_used_twice(const monitor *m, const play_options *o)
 {
-    errno = 0;
-    if (path && !write_file(path, m->session.ram.bytes, m->session.ram.length))
-        return fail("give --save-ram a place with room that you may write to", "%s cannot be written", path);
-    return DONE;
-}
-
-/* Whether a path means the flash file. */
-static bool is_flash(const char *path, const char *flash)
-{
-    struct stat one, other;
-    return path && flash && stat(path, &one) == 0 && stat(flash, &other) == 0 && one.st_ino == other.st_ino &&
-           one.st_dev == other.st_dev;
+    const char *paths[] = {o->flash, m->log.path, o->save_ram};
+    for (int i = 0; i < 3; i++)
+        for (int j = 0; j < i; j++)
+            if (paths[i] && paths[j] && (strcmp(paths[i], paths[j]) == 0 || is_same_file(paths[i], paths[j])))
+                return true;
+    return false;
 }
 
 /* Opens all that a monitor needs. Gives DONE, or the exit code after it has said what is wrong. */
 static int prepare(monitor *m, const play_options *o)
 {
-    if (is_flash(m->log.path, o->flash) || is_flash(o->save_ram, o->flash))
-        return misuse("--log and --save-ram must not be the flash file");
+    if (is_used_twice(m, o))
+        return misuse("--flash, --log and --save-ram must not be the same file");
     int code = lend_memories(m, o);
     if (code == DONE)
-        code = open_log(m);
-    if (code == DONE && !signals_catch())
-        code = fail("try again", "signals cannot be caught");
+        code = open_log(&m->log);
+    if (code == DONE && !signals_catch(true))
+        code = fail_errno("try again", "signals cannot be caught");
     return code == DONE ? open_line(m, o) : code;
 }
 
@@ -200,7 +184,7 @@ int run_play(int count, char **words)
         return code;
     announce(&m, words[0]);
     code = monitor_play(&m);
-    int saved = save_ram(&m, o.save_ram);
+    int saved = o.save_ram ? write_output(o.save_ram, m.session.ram.bytes, m.session.ram.length) : DONE;
     remove_link(o.link, m.line.path);
     log_close(&m.log);
     kept_close(&m.flash_file);

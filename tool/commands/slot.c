@@ -1,7 +1,7 @@
 /* undalisho slot: the slot that will start, and both images. */
 #include "commands.h"
 #include "exits.h"
-#include "flash_words.h"
+#include "slot.h"
 #include "options.h"
 #include "say.h"
 #include "view.h"

@@ -1,8 +1,8 @@
 #include "files.h"
 
+#include "memory.h"
 #include "replace.h"
 #include "signals.h"
-#include "text.h"
 
 #include <errno.h>
 #include <fcntl.h>
@@ -112,10 +112,26 @@ static bool write_in_place(const char *path, const uint8_t *bytes, size_t length
     return whole && closed;
 }
 
+bool is_regular(const char *path)
+{
+    struct stat there;
+    return stat(path, &there) == 0 && S_ISREG(there.st_mode);
+}
+
+bool is_same_file(const char *a, const char *b)
+{
+    struct stat one, other;
+    return stat(a, &one) == 0 && stat(b, &other) == 0 && one.st_ino == other.st_ino && one.st_dev == other.st_dev;
+}
+
 bool write_file(const char *path, const uint8_t *bytes, size_t length)
 {
     struct stat there;
     bool exists = stat(path, &there) == 0;
+    if (!exists && lstat(path, &there) == 0) {
+        errno = ENOENT; /* a link to nowhere */
+        return false;
+    }
     if (exists && !S_ISREG(there.st_mode))
         return write_in_place(path, bytes, length);
     char *real = exists ? realpath(path, NULL) : NULL;

@@ -20,6 +20,12 @@ bool read_open(int fd, size_t most, content *c);
 /* Writes a file. A regular one is replaced whole or not at all; a terminal or a pipe is written to. */
 bool write_file(const char *path, const uint8_t *bytes, size_t length);
 
+/* Whether the path means a file on a disk. */
+bool is_regular(const char *path);
+
+/* Whether two paths mean the same file, which is there. */
+bool is_same_file(const char *a, const char *b);
+
 /* Writes all bytes to a descriptor. */
 bool write_all(int fd, const void *bytes, size_t length);
 

@@ -9,11 +9,12 @@
 #include <sys/stat.h>
 #include <unistd.h>
 
-static bool is_regular(int fd)
+static bool is_plain(const char *path)
 {
-    struct stat there;
-    errno = EINVAL;
-    return fstat(fd, &there) == 0 && S_ISREG(there.st_mode);
+    bool plain = is_regular(path);
+    if (!plain)
+        errno = EINVAL;
+    return plain;
 }
 
 bool kept_open(kept_file *k, const char *path, size_t most, content *c)
@@ -23,7 +24,7 @@ bool kept_open(kept_file *k, const char *path, size_t most, content *c)
     if (!k->path)
         return false;
     k->fd = open_locked(k->path, O_RDWR, 0);
-    if (k->fd >= 0 && is_regular(k->fd) && can_replace(k->path) && read_open(k->fd, most, c))
+    if (k->fd >= 0 && is_plain(k->path) && can_replace(k->path) && read_open(k->fd, most, c))
         return true;
     int reason = errno;
     kept_close(k);

@@ -78,13 +78,6 @@ static bool make_raw(int fd, unsigned long baud)
     return tcsetattr(fd, TCSANOW, &t) == 0;
 }
 
-static bool is_prepared(int fd, unsigned long baud)
-{
-    int flags = fcntl(fd, F_GETFL);
-    return fd >= 0 && make_raw(fd, baud) && fcntl(fd, F_SETFL, flags | O_NONBLOCK) == 0 &&
-           fcntl(fd, F_SETFD, FD_CLOEXEC) == 0;
-}
-
 static bool give_up(line *l)
 {
     int reason = errno;
@@ -118,7 +111,7 @@ bool line_reopen(line *l)
 {
     line_close(l);
     l->fd = open(l->path, O_RDWR | O_NOCTTY | O_NONBLOCK | O_CLOEXEC);
-    return l->fd >= 0 && is_prepared(l->fd, l->baud) ? true : give_up(l);
+    return (l->fd >= 0 && make_raw(l->fd, l->baud)) || give_up(l);
 }
 
 void line_close(line *l)

@@ -6,7 +6,7 @@
 #include <stddef.h>
 #include <stdint.h>
 
-/* The speed of a port where none is given (sources 000 and 003). */
+/* The speed of a port where none is given: that of the DA1453x's boot ROM, and of uartboot. */
 enum { USUAL_BAUD = 115200 };
 
 typedef struct {

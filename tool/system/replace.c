@@ -37,16 +37,19 @@ static char *folder_of(const char *path)
     return t.chars;
 }
 
-/* Makes sure that the name in the folder is on the disk. Some file systems can't; then there is nothing to be done. */
-static void sync_folder(const char *path)
+/* Makes sure that the name in the folder is on the disk. Some file systems, and folders that may not be read, can't do
+   it; then there is nothing to be done. */
+static bool sync_folder(const char *path)
 {
     char *folder = folder_of(path);
     int fd = open(folder, O_RDONLY | O_CLOEXEC);
-    if (fd >= 0) {
-        fsync(fd);
+    bool synced = fd >= 0 ? fsync(fd) == 0 || errno == EINVAL || errno == ENOTSUP : errno == EACCES;
+    int reason = errno;
+    if (fd >= 0)
         close(fd);
-    }
     free(folder);
+    errno = reason;
+    return synced;
 }
 
 /* Gives the new file the old one's owner, where that is allowed, and its mode. */
@@ -97,17 +100,14 @@ int replace_file(const char *path, const struct stat *old, const uint8_t *bytes,
 {
     char *name = new_name(path);
     int fd = write_new(name, old, bytes, length);
-    if (fd >= 0 && rename(name, path) != 0) {
-        int reason = errno;
-        unlink(name);
-        close(fd);
-        errno = reason;
-        fd = -1;
-    }
+    bool named = fd >= 0 && rename(name, path) == 0;
+    bool whole = named && sync_folder(path);
     int reason = errno;
-    if (fd >= 0)
-        sync_folder(path);
+    if (fd >= 0 && !named)
+        unlink(name);
+    if (fd >= 0 && !whole)
+        close(fd);
     free(name);
     errno = reason;
-    return fd;
+    return whole ? fd : -1;
 }

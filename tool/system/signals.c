@@ -26,20 +26,23 @@ static bool prepare(int fd)
     return fcntl(fd, F_SETFL, O_NONBLOCK) == 0 && fcntl(fd, F_SETFD, FD_CLOEXEC) == 0;
 }
 
-bool signals_catch(void)
+static bool catch (int number)
 {
-    static const int numbers[] = {SIGINT, SIGTERM, SIGHUP, SIGUSR1};
-    struct sigaction action = {.sa_handler = on_signal};
+    struct sigaction old, action = {.sa_handler = on_signal};
+    if (sigaction(number, NULL, &old) != 0)
+        return false;
+    return old.sa_handler == SIG_IGN || sigaction(number, &action, NULL) == 0;
+}
+
+bool signals_catch(bool with_button)
+{
+    static pid_t owner;
+    if (owner == getpid())
+        return true;
     if (pipe(ends) != 0 || !prepare(ends[0]) || !prepare(ends[1]))
         return false;
-    for (unsigned i = 0; i < sizeof numbers / sizeof *numbers; i++) {
-        struct sigaction old;
-        if (sigaction(numbers[i], NULL, &old) != 0)
-            return false;
-        if (old.sa_handler != SIG_IGN && sigaction(numbers[i], &action, NULL) != 0)
-            return false;
-    }
-    return true;
+    owner = getpid();
+    return catch (SIGINT) && catch (SIGTERM) && catch (SIGHUP) && (!with_button || catch (SIGUSR1));
 }
 
 int signals_fd(void)

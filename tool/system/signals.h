@@ -4,9 +4,9 @@
 
 #include <stdbool.h>
 
-/* From now on SIGINT, SIGTERM and SIGHUP ask for the end, and SIGUSR1 presses the reset button; one that is ignored
- * stays so. */
-bool signals_catch(void);
+/* From now on SIGINT, SIGTERM and SIGHUP ask for the end and, if there is a reset button, SIGUSR1 presses it; a signal
+   that is ignored stays so. A second time in one process changes nothing. */
+bool signals_catch(bool with_button);
 
 /* Readable once a signal has come. */
 int signals_fd(void);

@@ -55,9 +55,8 @@ int refuse(uint32_t number, const char *about, ...)
     return code;
 }
 
-static int tell_args(const char *name, int code, const char *next, const char *what, va_list args)
+static int tell_args(const char *name, int code, const char *reason, const char *next, const char *what, va_list args)
 {
-    const char *reason = code == FAILED && errno ? strerror(errno) : "";
     text t = {0};
     text_add_args(&t, what, args);
     text_add(&t, "%s%s", *reason ? ": " : "", reason);
@@ -70,7 +69,16 @@ int refuse_line(const char *next, const char *what, ...)
 {
     va_list args;
     va_start(args, what);
-    int code = tell_args("refused", REFUSED, next, what, args);
+    int code = tell_args("refused", REFUSED, "", next, what, args);
+    va_end(args);
+    return code;
+}
+
+int fail_errno(const char *next, const char *what, ...)
+{
+    va_list args;
+    va_start(args, what);
+    int code = tell_args("failed", FAILED, strerror(errno), next, what, args);
     va_end(args);
     return code;
 }
@@ -79,7 +87,7 @@ int fail(const char *next, const char *what, ...)
 {
     va_list args;
     va_start(args, what);
-    int code = tell_args("failed", FAILED, next, what, args);
+    int code = tell_args("failed", FAILED, "", next, what, args);
     va_end(args);
     return code;
 }
@@ -88,8 +96,7 @@ int fail_silent(const char *next, const char *what, ...)
 {
     va_list args;
     va_start(args, what);
-    errno = 0;
-    int code = tell_args("silent", FAILED, next, what, args);
+    int code = tell_args("silent", FAILED, "", next, what, args);
     va_end(args);
     return code;
 }

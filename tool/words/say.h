@@ -15,6 +15,9 @@ int refuse(uint32_t number, const char *about, ...) LIKE_PRINTF(2, 3);
 int refuse_line(const char *next, const char *what, ...) LIKE_PRINTF(2, 3);
 
 /* A file or a line that failed; the system's reason is errno. */
+int fail_errno(const char *next, const char *what, ...) LIKE_PRINTF(2, 3);
+
+/* The same, where the system has given no reason. */
 int fail(const char *next, const char *what, ...) LIKE_PRINTF(2, 3);
 
 /* A chip that did not send, or take, what is due. */

@@ -1,23 +1,12 @@
 #include "text.h"
 
-#include "exits.h"
+#include "memory.h"
 
 #include <stdarg.h>
 #include <stdbool.h>
 #include <stdio.h>
 #include <stdlib.h>
 #include <string.h>
-
-void *memory_of(size_t bytes)
-{
-    void *memory = calloc(bytes ? bytes : 1, 1);
-    if (!memory) {
-        fprintf(stderr, "undalisho: there is no memory for %zu bytes\n  next: close other programs, then try again\n",
-                bytes);
-        exit(FAILED);
-    }
-    return memory;
-}
 
 static void make_room(text *t, size_t more)
 {

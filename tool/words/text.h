@@ -29,7 +29,4 @@ void text_add_hex(text *t, const uint8_t *bytes, size_t count, const char *betwe
 
 void text_free(text *t);
 
-/* Memory of so many zero bytes; never NULL. The program ends where there is none. */
-void *memory_of(size_t bytes);
-
 #endif

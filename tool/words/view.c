@@ -26,9 +26,8 @@ static void ask_library(flash_view *v)
 int view_file(flash_view *v, const char *path, unsigned long header)
 {
     *v = (flash_view){.path = path, .header = header};
-    errno = 0;
     if (!read_file(path, UND_FLASH_MAX, &v->flash))
-        return fail("name a file with the flash's bytes", "%s cannot be read", path);
+        return fail_errno("name a file with the flash's bytes", "%s cannot be read", path);
     ask_library(v);
     if (v->product.number != UND_BAD_FLASH)
         return DONE;
@@ -45,7 +44,8 @@ static size_t text_length(const uint8_t *field)
     return end ? (size_t)((const uint8_t *)end - field) : UND_VERSION_FIELD;
 }
 
-void add_version(text *t, const uint8_t *field)
+/* A version field as people write it; in quotes, with a remark, where its text is malformed. */
+static void add_version(text *t, const uint8_t *field)
 {
     size_t length = text_length(field);
     if (und_rank(field, UND_VERSION_FIELD).number == 0) {

@@ -6,7 +6,7 @@
 #include "text.h"
 #include "undalisho.h"
 
-/* Where the SDK's bootloader expects the product header (source 004). */
+/* Where the bootloader of the vendor's SDK expects the product header. */
 enum { USUAL_HEADER = 0x1F000 };
 
 typedef struct {
@@ -21,9 +21,6 @@ typedef struct {
 
 /* Reads a flash file and the library's answers. Gives DONE, or the exit code after it has said what is wrong. */
 int view_file(flash_view *v, const char *path, unsigned long header);
-
-/* A version field as people write it; in quotes, with a remark, where its text is malformed. */
-void add_version(text *t, const uint8_t *field);
 
 /* An image in a line: "id 9, version 1.9, 4096 bytes, valid". */
 void add_image(text *t, const uint8_t *memory, const und_image *image);

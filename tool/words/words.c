@@ -1,5 +1,6 @@
 #include "words.h"
 
+#include "exits.h"
 #include "undalisho.h"
 
 #include <stddef.h>
@@ -44,21 +45,30 @@ static const meaning numbers[] = {
     {UND_CANDIDATE_NOT_VALID, "the candidate is not a valid image", "take another copy of the candidate"},
 };
 
+/* The limits that are spelled out above. */
+typedef char limits_are_those[UND_WORK_MIN == 64 && UND_WORK_MAX == 65535 && UND_RAM_MAX == 131072 &&
+                                      UND_FLASH_SECTOR == 4096 && UND_FLASH_MAX == 4194304 && UND_VERSION_FIELD == 16
+                                  ? 1
+                                  : -1];
+
 static const meaning rules[] = {
-    {0, "valid", ""},
-    {UND_RULE_HEADER, "its header does not lie wholly there", ""},
-    {UND_RULE_MARK, "there is no image header", ""},
-    {UND_RULE_FLAG, "its flag does not say valid", ""},
-    {UND_RULE_SIZE, "its size is not one that code may have", ""},
-    {UND_RULE_REACH, "its code reaches past the end", ""},
-    {UND_RULE_ENCRYPTED, "it is encrypted", ""},
-    {UND_RULE_CRC, "the CRC-32 of its code is not the header's", ""},
+    {0, "valid", NULL},
+    {UND_RULE_HEADER, "its header does not lie wholly there", NULL},
+    {UND_RULE_MARK, "there is no image header", NULL},
+    {UND_RULE_FLAG, "its flag does not say valid", NULL},
+    {UND_RULE_SIZE, "its size is not one that code may have", NULL},
+    {UND_RULE_REACH, "its code reaches past the end", NULL},
+    {UND_RULE_ENCRYPTED, "it is encrypted", NULL},
+    {UND_RULE_CRC, "the CRC-32 of its code is not the header's", NULL},
 };
 
-/* The commands. In what a payload says, @n is the count of bytes, @a the RAM address, @o the flash offset, @v the
- * verify byte.
- */
-static const meaning names[] = {
+typedef struct {
+    uint32_t opcode;
+    const char *name;
+    const char *payload; /* @n is the count of bytes, @a the RAM address, @o the flash offset, @v the verify byte */
+} command_words;
+
+static const command_words commands[] = {
     {UND_OP_WRITE, "Write", "@n to RAM at @a"},
     {UND_OP_READ, "Read", "@n of RAM at @a"},
     {UND_OP_COPY, "Copy to QSPI", "@n of RAM at @a to flash at @o"},
@@ -93,6 +103,7 @@ void text_add_meaning(text *t, const meaning *m)
     text_add_json(t, m->what, strlen(m->what));
     text_add(t, ",\"next\":");
     text_add_json(t, m->next, strlen(m->next));
+    text_add(t, ",\"exit\":%d", REFUSED);
 }
 
 const meaning *rule_meaning(uint32_t rule)
@@ -100,9 +111,18 @@ const meaning *rule_meaning(uint32_t rule)
     return FIND(rules, rule);
 }
 
+static const command_words *find_command(uint32_t opcode)
+{
+    static const command_words none = {0, "unknown command", "payload"};
+    for (size_t i = 0; i < sizeof commands / sizeof *commands; i++)
+        if (commands[i].opcode == opcode)
+            return &commands[i];
+    return &none;
+}
+
 const char *opcode_name(uint32_t opcode)
 {
-    return FIND(names, opcode)->what;
+    return find_command(opcode)->name;
 }
 
 void add_count(text *t, size_t count)
@@ -124,7 +144,7 @@ static void add_number(text *t, char letter, const und_command *c)
 void add_payload(text *t, uint32_t opcode, const uint8_t *payload, size_t length)
 {
     und_command c = und_read_command(opcode, payload, length);
-    for (const char *sign = FIND(names, opcode)->next; *sign; sign++) {
+    for (const char *sign = find_command(opcode)->payload; *sign; sign++) {
         if (*sign == '@')
             add_number(t, *++sign, &c);
         else

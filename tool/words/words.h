@@ -15,10 +15,10 @@ typedef struct {
 /* A refusal's number, or a session's reason; never NULL. */
 const meaning *meaning_of(uint32_t number);
 
-/* ,"words":..,"next":.. as JSON has it. */
+/* A refusal as JSON has it: ,"words":..,"next":..,"exit":.. */
 void text_add_meaning(text *t, const meaning *m);
 
-/* The first rule that an image breaks; rule 0 is "valid". */
+/* The first rule that an image breaks; rule 0 is "valid". It has no next step of its own. */
 const meaning *rule_meaning(uint32_t rule);
 
 /* A command's name. */

@@ -1,6 +1,6 @@
 /* The command line of those that show a flash. */
-#ifndef FLASH_WORDS_H
-#define FLASH_WORDS_H
+#ifndef SLOT_H
+#define SLOT_H
 
 #include "view.h"
 
