@@ -72,6 +72,23 @@ class Verdicts(ChipCase):
         self.chip.write(b'\x15')
 
 
+class Greetings(ChipCase):
+    def test_again_and_again(self):
+        """A chip that greets every few milliseconds is not waited for to be quiet, and its greetings are passed over."""
+        begun = time.monotonic()
+        self.chip.write(b'\2' * 50)
+        self.start('--wait', '30')
+        while not self.chip.ready(0.01):
+            self.chip.write(b'\2')
+        self.chip.expect(FRAME[:3])
+        self.chip.write(b'\2\2\6')
+        self.chip.expect(CODE)
+        self.chip.write(bytes([model.xor(CODE)]))
+        self.chip.expect(b'\6')
+        self.ends(bench.DONE)
+        self.assertLess(time.monotonic() - begun, 20)
+
+
 class Waiting(ChipCase):
     def test_a_chip_that_comes_late(self):
         self.start('--wait', '20', '--json', '--log', self.path('log'))

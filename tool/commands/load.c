@@ -39,6 +39,7 @@ typedef struct {
     unsigned long seconds; /* how long the chip may be silent */
     bool bar;              /* a progress bar is shown */
     bool waiting;          /* that it waits was said */
+    bool clean;            /* the chip has sent nothing but greetings before the header */
 } loading;
 
 static const char *const check_line =
@@ -128,17 +129,17 @@ static int tell_other(loading *l, part due, uint8_t wanted, uint8_t got)
     return refuse_line(check_line, "refused: the chip has answered the header with %02X", got);
 }
 
-/* Takes bytes that were sent before anything of this load was: those that wait already, and where the line is not
-   clean, those that come shortly after. `byte` becomes the last. Gives how many there are. */
-static size_t take_older(loading *l, long long end, bool clean, uint8_t *byte)
+/* Takes bytes that were sent before anything of this load was: those that wait already, and where others than greetings
+   have come, those that come shortly after. `byte` becomes the last. Gives how many there are. */
+static size_t take_older(loading *l, long long end, uint8_t greeting, uint8_t *byte)
 {
     size_t all = 0, count = 1;
-    while (count > 0 && milliseconds_now() < end) {
+    for (; count > 0 && milliseconds_now() < end; all += count) {
         uint8_t next;
-        line_read(&l->line, &next, 1, clean && all == 0 ? 0 : SETTLES, &count);
+        l->clean = l->clean && *byte == greeting;
+        line_read(&l->line, &next, 1, l->clean ? 0 : SETTLES, &count);
         if (count > 0)
             *byte = next;
-        all += count;
     }
     return all;
 }
@@ -152,7 +153,7 @@ static int await_byte(loading *l, part due, uint8_t wanted)
         uint8_t got;
         int code = receive_byte(l, due, end, &got);
         if (code == DONE && due == GREETING)
-            passed += take_older(l, end, passed == 0 && got == wanted, &got);
+            passed += take_older(l, end, wanted, &got);
         bool other = code == DONE && got != wanted;
         if (other && (due == GREETING || (due == HEADER_ANSWER && got == UND_LINE_GREETING)))
             continue;
@@ -224,7 +225,7 @@ static bool read_load_options(int count, char **words, loading *l, const char **
 
 int run_load(int count, char **words)
 {
-    static loading l = {.seconds = USUAL_SECONDS};
+    static loading l = {.seconds = USUAL_SECONDS, .clean = true};
     const char *port = NULL;
     unsigned long baud = USUAL_BAUD;
     size_t code_length;
