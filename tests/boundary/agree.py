@@ -18,7 +18,7 @@ GCC = ["gcc", "-Wall", "-Wextra", "-Wpedantic", "-Werror"]
 # size_t is one fixed-width type in the first and another in the second, so it is told from both.
 MACHINES = [["-m64"], ["-m32", "-ffreestanding"]]
 
-CLAIMS = Path(__file__).with_name("claims.c")
+CLAIMS = [Path(__file__).with_name(name) for name in ("claims.c", "numbers.c")]
 
 
 class Differs(Exception):
@@ -70,9 +70,10 @@ def check_readme(functions, structs, root, folder):
 
 
 def check_claims(include, archive, folder):
-    program = str(folder / "claims")
-    run("the header", [*GCC, "-std=c99", "-I", str(include), str(CLAIMS), str(archive), "-o", program])
-    run("the header", [program])
+    for claims in CLAIMS:
+        program = str(folder / claims.stem)
+        run("the header", [*GCC, "-std=c99", "-I", str(include), str(claims), str(archive), "-o", program])
+        run("the header", [program])
 
 
 def agree(root, archive):

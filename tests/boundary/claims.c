@@ -1,20 +1,8 @@
-/* What undalisho.h says of its constants and of NULL, asked of the library. */
+/* What undalisho.h says of lengths, kinds, standings, words, files, rules, line bytes and NULL, asked of the library. */
+#include "hold.h"
 #include "undalisho.h"
 
-#include <stdio.h>
 #include <string.h>
-
-static int wrong;
-
-static void hold(int holds, const char *what)
-{
-    if (!holds) {
-        fprintf(stderr, "claims: not so: %s\n", what);
-        wrong = 1;
-    }
-}
-
-#define HOLD(what) hold((what), #what)
 
 static uint8_t ram[UND_RAM_MAX + 1], flash[UND_FLASH_MAX + UND_FLASH_SECTOR], work[UND_WORK_MAX + 1], reply[64];
 static uint32_t record[16]; /* more words than a record has */

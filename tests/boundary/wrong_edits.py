@@ -196,6 +196,15 @@ ARCHIVES = [
 ]
 
 
+# The header's names for numbers, reasons, opcodes and the like: each is tried with another value.
+NUMBERED = r"\b(UND_(?!KIND|WANTS|RUNS|RECORD|RULE|LINE|FILE|RAM_|WORK_|FLASH_MAX|FLASH_SECTOR)\w+) = (\w+)"
+
+
+def numbered_edits(root):
+    for name, value in re.findall(NUMBERED, Path(root, HEADER).read_text()):
+        yield f"wrong {name}", f"{name} = {value}", f"{name} = {int(value, 0) + 100}", f"not so: .*{name}"
+
+
 def copy_of(root, tree):
     """The files that agree.py reads."""
     for path in [Path(root, HEADER), Path(root, README), *Path(root).glob("crates/*/src/**/*.rt")]:
@@ -235,6 +244,7 @@ def main():
         sys.exit(__doc__)
     root, archive = sys.argv[1:]
     edits = [(name, *edit) for name, its in EDITS.items() for edit in its]
+    edits += [(HEADER, *edit) for edit in numbered_edits(root)]
     with tempfile.TemporaryDirectory() as folder:
         copy_of(root, Path(folder))
         for edit in edits:
