@@ -16,7 +16,8 @@ use Rattle.capi.specs.Called.{calledOf, wordsAfter, given, givenOf}
 use Rattle.capi.specs.declared.Called.{Called}
 
 -- a session call on the record r that the words make
-module _ {M S : Type 0} (σ : Session M S) (words : List ℕ) (mem : M) (input reply : List ℕ) (r : Record) (made : (r ≡ recordOf words) × (wordsOf r ≡ words))
+module _ {A M S : Type 0} (σ : Session A M S) (words : List ℕ) (mem : M) (input : List A) (reply : List ℕ) (r : Record)
+    (made : (r ≡ recordOf words) × (wordsOf r ≡ words))
     (report : Report) (reply′ : List ℕ) (mem′ : M) (e : record { report = report; reply = reply′; memories = mem′ } ≡ answerOf σ r mem input reply) where
   -- the words that a refused call leaves are those of the record that it hands back
   words-back : wordsAfter report words ≡ wordsOf (report .session)

@@ -27,20 +27,20 @@ module _ {A S : Type 0} (m : Machine A S) where
   unfolding call
   call-run s inp room e = rw e (act-run (suc (length inp + room)) s inp room)
 
-  pub call-short : (s : S) (inp : List A) (room views takes : ℕ) → m .need s ≡ acts views takes → length inp < views → call m s inp room ≡ halt s
+  pub call-short : (s : S) (inp : List A) (room views : ℕ) → m .need s ≡ acts views → length inp < views → call m s inp room ≡ halt s
   unfolding call act
-  call-short s inp room views takes e h = rw e (simp (lt-leb _ _ h))
+  call-short s inp room views e h = rw e (simp (lt-leb _ _ h))
 
-  pub call-full : (s : S) (inp : List A) (room views takes : ℕ) → m .need s ≡ acts views takes → room < length (m .says s (take views inp)) →
+  pub call-full : (s : S) (inp : List A) (room views : ℕ) → m .need s ≡ acts views → room < length (m .says s (take views inp)) →
       call m s inp room ≡ halt s
   unfolding call act
-  call-full s inp room views takes e h = rw e (simp (lt-leb _ _ h, and-false))
+  call-full s inp room views e h = rw e (simp (lt-leb _ _ h, and-false))
 
   pub drain-takes-none : (k : ℕ) (n : Need) (s : S) → drainAt m k n s .taken ≡ 0
   drain-takes-none zero n s = refl
   drain-takes-none (suc k) runs s = refl
-  drain-takes-none (suc k) (acts (suc views) takes) s = refl
-  drain-takes-none (suc k) (acts zero takes) s = simp (drain-takes-none k (m .need (m .after s [])) (m .after s []))
+  drain-takes-none (suc k) (acts (suc views)) s = refl
+  drain-takes-none (suc k) (acts zero) s = simp (drain-takes-none k (m .need (m .after s [])) (m .after s []))
 
   module _ {Good : A → Type 0} {Sound : S → Type 0} (law : Lawful m Good Sound) where
     -- the actions that follow one with this view, where the fuel doesn't matter for fewer symbols and less room
@@ -48,15 +48,16 @@ module _ {A S : Type 0} (m : Machine A S) where
     Same k l = (s : S) (inp : List A) (room : ℕ) → length inp + room < k → length inp + room < l →
         act m k (m .need s) s inp room ≡ act m l (m .need s) s inp room
 
-    fuel-later : (k l : ℕ) → Same k l → (s : S) (inp : List A) (room views takes : ℕ) → m .need s ≡ acts views takes → views ≤ length inp →
+    fuel-later : (k l : ℕ) → Same k l → (s : S) (inp : List A) (room views : ℕ) → m .need s ≡ acts views → views ≤ length inp →
         length (m .says s (take views inp)) ≤ room →
         let next = m .after s (take views inp) in
+        let takes = m .takes s (take views inp) in
         let left = room - length (m .says s (take views inp)) in
         (length (drop takes inp) + left < length inp + room → length (drop takes inp) + left < k) →
         (length (drop takes inp) + left < length inp + room → length (drop takes inp) + left < l) →
         act m k (m .need next) next (drop takes inp) left ≡ act m l (m .need next) next (drop takes inp) left
     unfolding Same
-    fuel-later k l same s inp room views takes e shown fits h g = moved (law .moves s view views takes e (length-take-le views inp shown))
+    fuel-later k l same s inp room views e shown fits h g = moved (law .moves s view views e (length-take-le views inp shown))
       where
         view : List A
         view = take views inp
@@ -64,16 +65,19 @@ module _ {A S : Type 0} (m : Machine A S) where
         left : ℕ
         left = room - length (m .says s view)
 
+        takes : ℕ
+        takes = m .takes s view
+
         inside : takes ≤ views
-        inside = law .takes-in-view s views takes e
+        inside = rw (length-take-le views inp shown) at (law .takes-in-view s view)
 
         rest : length (drop takes inp) ≡ length inp - takes
         rest = length-drop takes inp
 
-        moved : Moves m s view views takes → act m k (m .need (m .after s view)) (m .after s view) (drop takes inp) left
+        moved : Moves m s view → act m k (m .need (m .after s view)) (m .after s view) (drop takes inp) left
             ≡ act m l (m .need (m .after s view)) (m .after s view) (drop takes inp) left
         moved (takes-one p) = let less : length (drop takes inp) + left < length inp + room = omega (arith, shown, fits, inside, rest) in same _ _ _ (h less) (g less)
-        moved (sends-one p q) = let less : length (drop takes inp) + left < length inp + room = omega (arith, shown, fits, inside, rest) in same _ _ _ (h less) (g less)
+        moved (sends-one p q) = let some : 0 < length (m .says s view) = q in let less : length (drop takes inp) + left < length inp + room = omega (arith, shown, fits, inside, rest) in same _ _ _ (h less) (g less)
         moved (stops p) = rw p (act-run k _ _ _ ∙ sym (act-run l _ _ _))
 
     fuel-step : (k l : ℕ) → Same k l → Same (suc k) (suc l)
@@ -82,11 +86,11 @@ module _ {A S : Type 0} (m : Machine A S) where
       where
         go : (n : Need) → m .need s ≡ n → act m (suc k) n s inp room ≡ act m (suc l) n s inp room
         go runs e = refl
-        go (acts views takes) e = cond-same _ _ _ _ (λ t.
+        go (acts views) e = cond-same _ _ _ _ (λ t.
             let said = m .says s (take views inp) in
             let both = both-true (leb views (length inp)) (leb (length said) room) t in
-            ap (join (acted said takes (m .after s (take views inp))))
-            (fuel-later k l same s inp room views takes e (leb-true _ _ (both .0)) (leb-true _ _ (both .1)) (λ less. omega (arith, less)) (λ less. omega (arith, less))))
+            ap (join (acted said (m .takes s (take views inp)) (m .after s (take views inp))))
+            (fuel-later k l same s inp room views e (leb-true _ _ (both .0)) (leb-true _ _ (both .1)) (λ less. omega (arith, less)) (λ less. omega (arith, less))))
 
     -- more actions than can be made change nothing
     act-fuel : (k l : ℕ) → Same k l
@@ -96,25 +100,27 @@ module _ {A S : Type 0} (m : Machine A S) where
     act-fuel (suc k) (suc l) s inp room h g = fuel-step k l (act-fuel k l) s inp room h g
 
     -- a call's first action
-    pub call-act : (s : S) (inp : List A) (room views takes : ℕ) → m .need s ≡ acts views takes → views ≤ length inp →
+    pub call-act : (s : S) (inp : List A) (room views : ℕ) → m .need s ≡ acts views → views ≤ length inp →
         length (m .says s (take views inp)) ≤ room →
         let next = m .after s (take views inp) in
         let said = m .says s (take views inp) in
+        let takes = m .takes s (take views inp) in
         call m s inp room ≡ join (acted said takes next) (call m next (drop takes inp) (room - length said))
     unfolding Same call act
-    call-act s inp room views takes e shown fits =
+    call-act s inp room views e shown fits =
         let said = m .says s (take views inp) in
+        let takes = m .takes s (take views inp) in
         rw e (simp (le-leb _ _ shown, le-leb _ _ fits)
         (ap (join (acted said takes (m .after s (take views inp))))
-        (fuel-later (length inp + room) (suc (length (drop takes inp) + (room - length said))) (act-fuel _ _) s inp room views takes e shown fits
+        (fuel-later (length inp + room) (suc (length (drop takes inp) + (room - length said))) (act-fuel _ _) s inp room views e shown fits
         (λ less. less) (λ less. omega arith))))
 
     -- what is due, with nothing due and with one action more
-    drain-take : (s : S) (views takes : ℕ) → m .need s ≡ acts (suc views) takes → drain m s ≡ halt s
+    drain-take : (s : S) (views : ℕ) → m .need s ≡ acts (suc views) → drain m s ≡ halt s
     unfolding drain
-    drain-take s views takes e = rw e (go (m .due s))
+    drain-take s views e = rw e (go (m .due s))
       where
-        go : (k : ℕ) → drainAt m k (acts (suc views) takes) s ≡ halt s
+        go : (k : ℕ) → drainAt m k (acts (suc views)) s ≡ halt s
         go zero = refl
         go (suc k) = refl
 
@@ -126,10 +132,10 @@ module _ {A S : Type 0} (m : Machine A S) where
         go zero = refl
         go (suc k) = refl
 
-    drain-send : (s : S) (takes : ℕ) → Sound s → m .need s ≡ acts 0 takes →
+    drain-send : (s : S) → Sound s → m .need s ≡ acts 0 →
         drain m s ≡ join (acted (m .says s []) 0 (m .after s [])) (drain m (m .after s []))
     unfolding drain
-    drain-send s takes g e = rw (e, law .due-falls s takes g e)
+    drain-send s g e = rw (e, law .due-falls s g e)
 
     -- the uncut definition's fuel suffices too
     SameFeed : (k l : ℕ) → Type 0
@@ -141,12 +147,13 @@ module _ {A S : Type 0} (m : Machine A S) where
     feed-run (suc k) s stream = refl
 
     -- after one action with a view: what is due, and then any fuel that is enough
-    feed-moved : (k l : ℕ) → SameFeed k l → (s : S) (stream : List A) (views takes : ℕ) → m .need s ≡ acts (suc views) takes → suc views ≤ length stream →
+    feed-moved : (k l : ℕ) → SameFeed k l → (s : S) (stream : List A) (views : ℕ) → m .need s ≡ acts (suc views) → suc views ≤ length stream →
+        let takes = m .takes s (take (suc views) stream) in
         length stream ≤ k → (0 < takes → length stream - takes < l) →
         let d = drain m (m .after s (take (suc views) stream)) in
         feed m k (m .need (d .final)) (d .final) (drop takes stream) ≡ feed m l (m .need (d .final)) (d .final) (drop takes stream)
     unfolding SameFeed
-    feed-moved k l same s stream views takes e shown h g = moved (law .moves s view (suc views) takes e (length-take-le (suc views) stream shown))
+    feed-moved k l same s stream views e shown h g = moved (law .moves s view (suc views) e (length-take-le (suc views) stream shown))
       where
         view : List A
         view = take (suc views) stream
@@ -154,17 +161,20 @@ module _ {A S : Type 0} (m : Machine A S) where
         next : S
         next = m .after s view
 
+        takes : ℕ
+        takes = m .takes s view
+
         left : length (drop takes stream) ≡ length stream - takes
         left = length-drop takes stream
 
         inside : takes ≤ suc views
-        inside = law .takes-in-view s (suc views) takes e
+        inside = rw (length-take-le (suc views) stream shown) at (law .takes-in-view s view)
 
-        moved : Moves m s view (suc views) takes →
+        moved : Moves m s view →
             feed m k (m .need (drain m next .final)) (drain m next .final) (drop takes stream)
             ≡ feed m l (m .need (drain m next .final)) (drain m next .final) (drop takes stream)
         moved (takes-one p) = same _ _ (omega (arith, shown, inside, left)) (omega (arith, left, g p))
-        moved (sends-one p q) = absurd (let z : ⊥ = omega arith in z)
+        moved (sends-one p q) = absurd (let z : ⊥ = omega (arith, ap length p, length-take-le (suc views) stream shown) in z)
         moved (stops p) = rw (drain-run next p, p) (feed-run k next _ ∙ sym (feed-run l next _))
 
     feed-step : (k l : ℕ) → SameFeed k l → SameFeed (suc k) (suc l)
@@ -173,14 +183,14 @@ module _ {A S : Type 0} (m : Machine A S) where
       where
         go : (n : Need) → m .need s ≡ n → feed m (suc k) n s stream ≡ feed m (suc l) n s stream
         go runs e = refl
-        go (acts zero takes) e = refl
-        go (acts (suc views) takes) e =
+        go (acts zero) e = refl
+        go (acts (suc views)) e =
             let view = take (suc views) stream in
             let d = drain m (m .after s view) in
             cond-same _ _ _ _ (λ t.
             let shown : suc views ≤ length stream = leb-true _ _ t in
-            ap (λ o. join (acted (m .says s view) takes (m .after s view)) (join d o))
-            (feed-moved k l same s stream views takes e shown (omega arith) (λ p. omega (arith, shown, law .takes-in-view s (suc views) takes e))))
+            ap (λ o. join (acted (m .says s view) (m .takes s view) (m .after s view)) (join d o))
+            (feed-moved k l same s stream views e shown (omega arith) (λ p. omega (arith, shown))))
 
     feed-fuel : (k l : ℕ) → SameFeed k l
     unfolding SameFeed
@@ -188,35 +198,37 @@ module _ {A S : Type 0} (m : Machine A S) where
     feed-fuel (suc k) zero s stream h g = absurd (let z : ⊥ = omega arith in z)
     feed-fuel (suc k) (suc l) s stream h g = feed-step k l (feed-fuel k l) s stream h g
 
-    feed-some : (k : ℕ) (s : S) (stream : List A) (views takes : ℕ) → suc views ≤ length stream →
+    feed-some : (k : ℕ) (s : S) (stream : List A) (views : ℕ) → suc views ≤ length stream →
         let view = take (suc views) stream in
+        let takes = m .takes s view in
         let d = drain m (m .after s view) in
-        feed m (suc k) (acts (suc views) takes) s stream
+        feed m (suc k) (acts (suc views)) s stream
         ≡ join (acted (m .says s view) takes (m .after s view)) (join d (feed m k (m .need (d .final)) (d .final) (drop takes stream)))
     unfolding feed
-    feed-some k s stream views takes h = simp (le-leb _ _ h)
+    feed-some k s stream views h = simp (le-leb _ _ h)
 
     -- the uncut definition stops where code runs, and where the stream is too short
     pub uncut-run : (s : S) (stream : List A) → m .need s ≡ runs → uncut m s stream ≡ halt s
     unfolding uncut
     uncut-run s stream e = rw (drain-run s e, e, feed-run (suc (length stream)) s stream) (halt-join s (halt s))
 
-    pub uncut-short : (s : S) (stream : List A) (views takes : ℕ) → m .need s ≡ acts views takes → length stream < views → uncut m s stream ≡ halt s
+    pub uncut-short : (s : S) (stream : List A) (views : ℕ) → m .need s ≡ acts views → length stream < views → uncut m s stream ≡ halt s
     unfolding uncut feed
-    uncut-short s stream zero takes e h = absurd (let z : ⊥ = omega arith in z)
-    uncut-short s stream (suc views) takes e h = rw (drain-take s views takes e, e) (simp (lt-leb _ _ h) (halt-join s (halt s)))
+    uncut-short s stream zero e h = absurd (let z : ⊥ = omega arith in z)
+    uncut-short s stream (suc views) e h = rw (drain-take s views e, e) (simp (lt-leb _ _ h) (halt-join s (halt s)))
 
     -- its first action
-    pub uncut-act : (s : S) → Sound s → (stream : List A) (views takes : ℕ) → m .need s ≡ acts views takes → views ≤ length stream →
+    pub uncut-act : (s : S) → Sound s → (stream : List A) (views : ℕ) → m .need s ≡ acts views → views ≤ length stream →
         let view = take views stream in
+        let takes = m .takes s view in
         uncut m s stream ≡ join (acted (m .says s view) takes (m .after s view)) (uncut m (m .after s view) (drop takes stream))
     unfolding uncut
-    uncut-act s g stream zero zero e h =
+    uncut-act s g stream zero e h =
         let next = m .after s [] in
         let d = drain m next in
-        rw (drain-send s 0 g e) (join-assoc (acted (m .says s []) 0 next) d (feed m (suc (length stream)) (m .need (d .final)) (d .final) stream))
-    uncut-act s g stream zero (suc takes) e h = absurd (let z : ⊥ = omega (arith, law .takes-in-view s 0 (suc takes) e) in z)
-    uncut-act s g stream (suc views) takes e h = rw (drain-take s views takes e, e) (halt-join s _ ∙ first)
+        let none : m .takes s [] ≡ 0 = omega (arith, law .takes-in-view s []) in
+        rw (drain-send s g e, none) (join-assoc (acted (m .says s []) 0 next) d (feed m (suc (length stream)) (m .need (d .final)) (d .final) stream))
+    uncut-act s g stream (suc views) e h = rw (drain-take s views e, e) (halt-join s _ ∙ first)
       where
         view : List A
         view = take (suc views) stream
@@ -224,13 +236,16 @@ module _ {A S : Type 0} (m : Machine A S) where
         next : S
         next = m .after s view
 
+        takes : ℕ
+        takes = m .takes s view
+
         left : length (drop takes stream) ≡ length stream - takes
         left = length-drop takes stream
 
-        first : feed m (suc (length stream)) (acts (suc views) takes) s stream
+        first : feed m (suc (length stream)) (acts (suc views)) s stream
             ≡ join (acted (m .says s view) takes next)
             (join (drain m next) (feed m (suc (length (drop takes stream))) (m .need (drain m next .final)) (drain m next .final) (drop takes stream)))
         first =
-            feed-some (length stream) s stream views takes h
+            feed-some (length stream) s stream views h
             ∙ ap (λ o. join (acted (m .says s view) takes next) (join (drain m next) o))
-            (feed-moved (length stream) (suc (length (drop takes stream))) (feed-fuel _ _) s stream views takes e h (omega arith) (λ p. omega (arith, left)))
+            (feed-moved (length stream) (suc (length (drop takes stream))) (feed-fuel _ _) s stream views e h (omega arith) (λ p. omega (arith, left)))

@@ -9,7 +9,7 @@ use Rattle.machine.specs.Session.{Session, Answer, sound, unsound, badRe
 use Rattle.machine.specs.declared.Record.{Record}
 use Rattle.machine.specs.declared.Report.{Report}
 
-module _ {M S : Type 0} (σ : Session M S) (session : Record) (mem : M) (input reply : List ℕ) (r : Report) where
+module _ {A M S : Type 0} (σ : Session A M S) (session : Record) (mem : M) (input : List A) (reply : List ℕ) (r : Report) where
   pub refused-length : (number : ℕ) → number ≡ σ .refusal mem → (number ≡ 0 → ⊥) → r ≡ refusedReport number session →
       _≡_ {A = Answer M} (record { report = r; reply = reply; memories = mem }) (answerOf σ session mem input reply)
   unfolding answerOf

@@ -24,7 +24,7 @@ module _ {A S : Type 0} (m : Machine A S) {Good : A → Type 0} {Sound : S → T
   stopped-uncut s left (running e) = uncut-run m law s left (stands-running (m .need s) (length left) e)
   stopped-uncut s left (waits e) =
       let l = stands-waiting (m .need s) (length left) e in
-      uncut-short m law s left (l .views) (l .takes) (l .need-is) (l .less)
+      uncut-short m law s left (l .views) (l .need-is) (l .less)
 
   module _ (start : S) (g : Sound start) (stream : List A) (w : Every Good stream) where
     -- what has come to o: the definition goes on from there
@@ -40,17 +40,17 @@ module _ {A S : Type 0} (m : Machine A S) {Good : A → Type 0} {Sound : S → T
       stopped-same s = sym (continues ∙ rw (stopped-uncut (o .final) rest s) (join-halt o))
 
       -- a call that has an action's symbols in view lacks room for replies of the definition
-      room-lacks : (shown room views takes : ℕ) →
+      room-lacks : (shown room views : ℕ) →
           let input = take shown rest in
           let p = call m (o .final) input room in
           length (uncut m start stream .replies) ≤ length (o .replies) + room →
-          m .need (p .final) ≡ acts views takes → views ≤ length (drop (p .taken) input) → ⊥
+          m .need (p .final) ≡ acts views → views ≤ length (drop (p .taken) input) → ⊥
       unfolding rest
-      room-lacks shown room views takes h e v =
+      room-lacks shown room views h e v =
           let input = take shown rest in
           let p = call m (o .final) input room in
           let b = call-blocked m law (o .final) input room in
-          let full = b .full views takes e v in
+          let full = b .full views e v in
           let front : Begins input rest = record { back = drop shown rest; is = sym (take-append-drop shown rest) } in
           let later : Begins (drop (p .taken) input) (drop (p .taken) rest) = begins-drop input rest (p .taken) front (b .within) in
           let view = take views (drop (p .taken) input) in
@@ -58,11 +58,12 @@ module _ {A S : Type 0} (m : Machine A S) {Good : A → Type 0} {Sound : S → T
           let on = call-came m law start stream o c shown room in
           let sound : Sound (p .final) = path-keeps m law start stream (law .stays-sound) w g (on .path) in
           let enough : views ≤ length (drop (p .taken) rest) = omega (arith, v, ap length (later .is), length-append (drop (p .taken) input) (later .back)) in
-          let act = uncut-act m law (p .final) sound (drop (p .taken) rest) views takes e enough in
+          let act = uncut-act m law (p .final) sound (drop (p .taken) rest) views e enough in
           let whole = path-continues m law start stream g w (on .path) in
           let whole′ = rw (← drop-drop (p .taken) (o .taken) stream, act, ← same) at whole in
           let sent = o .replies ++ p .replies in
           let said = m .says (p .final) view in
+          let takes = m .takes (p .final) view in
           let last = uncut m (m .after (p .final) view) (drop takes (drop (p .taken) rest)) .replies in
           let count : length (uncut m start stream .replies) ≡ length (sent ++ (said ++ last)) = ap (λ x. length (x .replies)) whole′ in
           omega (arith, count, length-append sent (said ++ last), length-append (o .replies) (p .replies), length-append said last, full, h)
@@ -71,7 +72,7 @@ module _ {A S : Type 0} (m : Machine A S) {Good : A → Type 0} {Sound : S → T
           let input = take shown rest in
           let p = call m (o .final) input room in
           Stopped m (p .final) (drop (p .taken) input)
-      enough-room shown room h = unless-full m _ _ (λ views takes e v. room-lacks shown room views takes h e v)
+      enough-room shown room h = unless-full m _ _ (λ views e v. room-lacks shown room views h e v)
 
     -- the claim, for what has come to o
     pub came-holds : (o : Outcome S) → Came m start stream o → Holds m start stream o (uncut m start stream)

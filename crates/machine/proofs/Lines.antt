@@ -2,7 +2,7 @@
 -- Assumes nothing.
 use Prim.Native.Nat.{ℕ, suc, _≤_, _<_}
 use native.Mathlib.Omega.{arith}
-use mathlib.Core.Path.{_≡_, sym, ap, _∙_}
+use mathlib.Core.Path.{_≡_, refl, sym, ap, _∙_}
 use mathlib.Core.List.{List, [], _∷_}
 use lib.ListN.{length}
 use Rattle.machine.specs.Machine.{Need, acts, runs, Machine, line}
@@ -17,48 +17,36 @@ pub data Line (n : Need) : Type 0 where
   sends : n ≡ machine.send → Line n
   ends : n ≡ runs → Line n
 
-abbrev pub takesOf : Need → ℕ
-takesOf (acts views count) = count
-takesOf runs = 0
-
 module _ {A S : Type 0} (need : S → Need) (took : S → A → S) (byte : S → ℕ) (sent : S → S) (due : S → ℕ) (is-line : (s : S) → Line (need s)) where
   abbrev m : Machine A S
   m = line need took byte sent due
 
-  pub line-takes : (s : S) (views takes : ℕ) → need s ≡ acts views takes → takes ≤ views
-  line-takes s views t e = go (is-line s)
-    where
-      go : Line (need s) → t ≤ views
-      go (takes f) = let v : views ≡ 1 = ap viewsOf (sym e ∙ f) in let u : t ≡ 1 = ap takesOf (sym e ∙ f) in omega arith
-      go (sends f) = let u : t ≡ 0 = ap takesOf (sym e ∙ f) in omega arith
-      go (ends f) = absurd (not-both views t (sym f ∙ e))
-
-  pub line-one : (s : S) (views takes : ℕ) → need s ≡ acts views takes → views ≤ 1
-  line-one s views t e = go (is-line s)
+  pub line-one : (s : S) (views : ℕ) → need s ≡ acts views → views ≤ 1
+  line-one s views e = go (is-line s)
     where
       go : Line (need s) → views ≤ 1
       go (takes f) = let v : views ≡ 1 = ap viewsOf (sym e ∙ f) in omega arith
       go (sends f) = let v : views ≡ 0 = ap viewsOf (sym e ∙ f) in omega arith
-      go (ends f) = absurd (not-both views t (sym f ∙ e))
+      go (ends f) = absurd (not-both views (sym f ∙ e))
 
-  pub line-speaks : (s : S) (takes : ℕ) → need s ≡ acts 0 takes → 0 < length (m .says s [])
-  line-speaks s t e = omega arith
+  pub line-speaks : (s : S) → need s ≡ acts 0 → 0 < length (m .says s [])
+  line-speaks s e = omega arith
 
-  line-moves : (s : S) (view : List A) (views takes : ℕ) → need s ≡ acts views takes → length view ≡ views → Moves m s view views takes
-  line-moves s view views t e l = go (is-line s) view l
+  line-moves : (s : S) (view : List A) (views : ℕ) → need s ≡ acts views → length view ≡ views → Moves m s view
+  line-moves s view views e l = go (is-line s) view l
     where
-      go : Line (need s) → (view : List A) → length view ≡ views → Moves m s view views t
-      go (takes f) view l = let u : t ≡ 1 = ap takesOf (sym e ∙ f) in takes-one (omega arith)
-      go (sends f) [] l = sends-one (ap viewsOf (sym e ∙ f)) (omega arith)
+      go : Line (need s) → (view : List A) → length view ≡ views → Moves m s view
+      go (takes f) view l = let v : views ≡ 1 = ap viewsOf (sym e ∙ f) in takes-one (omega arith)
+      go (sends f) [] l = sends-one refl (omega arith)
       go (sends f) (a ∷ view) l = let v : views ≡ 0 = ap viewsOf (sym e ∙ f) in absurd (let z : ⊥ = omega arith in z)
-      go (ends f) view l = absurd (not-both views t (sym f ∙ e))
+      go (ends f) view l = absurd (not-both views (sym f ∙ e))
 
   -- what takes and sends keep, every action keeps
   pub line-kept : (Good : A → Type 0) (P : List (Event A S) → S → Type 0) →
       ((events : List (Event A S)) (s : S) (a : A) → need s ≡ machine.take → Good a → P events s → P (record { state = s; view = a ∷ [] } ∷ events) (took s a)) →
       ((events : List (Event A S)) (s : S) → need s ≡ machine.send → P events s → P (record { state = s; view = [] } ∷ events) (sent s)) →
       Kept m Good P
-  line-kept Good P by-take by-send events s view views t e l w h = go (is-line s) view l w
+  line-kept Good P by-take by-send events s view views e l w h = go (is-line s) view l w
     where
       go : Line (need s) → (view : List A) → length view ≡ views → Every Good view → P (record { state = s; view = view } ∷ events) (m .after s view)
       go (takes f) [] l w = let v : views ≡ 1 = ap viewsOf (sym e ∙ f) in absurd (let z : ⊥ = omega arith in z)
@@ -66,7 +54,7 @@ module _ {A S : Type 0} (need : S → Need) (took : S → A → S) (byte : S →
       go (takes f) (a ∷ b ∷ view) l w = let v : views ≡ 1 = ap viewsOf (sym e ∙ f) in absurd (let z : ⊥ = omega arith in z)
       go (sends f) [] l w = by-send events s f h
       go (sends f) (a ∷ view) l w = let v : views ≡ 0 = ap viewsOf (sym e ∙ f) in absurd (let z : ⊥ = omega arith in z)
-      go (ends f) view l w = absurd (not-both views t (sym f ∙ e))
+      go (ends f) view l w = absurd (not-both views (sym f ∙ e))
 
   pub line-lawful : (Good : A → Type 0) (Sound : S → Type 0) → ((s : S) (a : A) → need s ≡ machine.take → Good a → Sound s → Sound (took s a)) →
       ((s : S) → need s ≡ machine.send → Sound s → Sound (sent s)) → ((s : S) → Sound s → need s ≡ machine.send → due s ≡ suc (due (sent s))) →
@@ -74,10 +62,7 @@ module _ {A S : Type 0} (need : S → Need) (took : S → A → S) (byte : S →
   line-lawful Good Sound by-take by-send exact =
       record {
         stays-sound = line-kept Good (λ _ s. Sound s) (λ events s a e g h. by-take s a e g h) (λ events s e h. by-send s e h);
-        takes-in-view = line-takes;
+        takes-in-view = λ s view. omega arith;
         moves = line-moves;
-        due-falls = λ s t g e. exact s g (sent-need s t e);
+        due-falls = exact;
       }
-    where
-      sent-need : (s : S) (t : ℕ) → need s ≡ acts 0 t → need s ≡ machine.send
-      sent-need s t e = let u : t ≤ 0 = line-takes s 0 t e in let z : t ≡ 0 = omega arith in e ∙ ap (λ (k : ℕ). acts 0 k) z

@@ -38,20 +38,22 @@ module _ {A S : Type 0} (m : Machine A S) (s₀ : S) (input : List A) (old : Lis
 
   module _ (s : S) (i j : ℕ) (reply : List ℕ) (r : Reached m s₀ input old s i j reply) where
     -- one action
-    pub reached-act : {Good : A → Type 0} {Sound : S → Type 0} → Lawful m Good Sound → (views takes : ℕ) → m .need s ≡ acts views takes →
+    pub reached-act : {Good : A → Type 0} {Sound : S → Type 0} → Lawful m Good Sound → (views : ℕ) → m .need s ≡ acts views →
         i + views ≤ length input →
         let view = take views (drop i input) in
         let said = m .says s view in
+        let takes = m .takes s view in
         j + length said ≤ length reply → (reply′ : List ℕ) → length reply′ ≡ length reply → take (j + length said) reply′ ≡ take j reply ++ said →
         drop (j + length said) reply′ ≡ drop (j + length said) reply → Reached m s₀ input old (m .after s view) (i + takes) (j + length said) reply′
-    reached-act law views takes e h f reply′ l front back =
+    reached-act law views e h f reply′ l front back =
         let view = take views (drop i input) in
         let said = m .says s view in
         let rest = drop i input in
         let left : length rest ≡ length input - i = length-drop i input in
         let shown : views ≤ length rest = omega (arith, h, r .taken-fits) in
         let room : length said ≤ length old - j = omega (arith, f, r .same-length) in
-        let inside : takes ≤ views = law .takes-in-view s views takes e in
+        let takes = m .takes s view in
+        let inside : takes ≤ views = rw (length-take-le views rest shown) at (law .takes-in-view s view) in
         let less : length old - j - length said ≡ length old - (j + length said) = omega (arith, f, r .same-length) in
         let after = call m (m .after s view) (drop (i + takes) input) (length old - (j + length said)) in
         record {
@@ -61,9 +63,23 @@ module _ {A S : Type 0} (m : Machine A S) (s₀ : S) (input : List A) (old : Lis
           rest-same = back ∙ sym (drop-drop (length said) j reply) ∙ ap (drop (length said)) (r .rest-same) ∙ drop-drop (length said) j old;
           goes-on =
               r .goes-on
-              ∙ ap (join (acted (take j reply) i s)) (call-act m law s rest (length old - j) views takes e shown room)
+              ∙ ap (join (acted (take j reply) i s)) (call-act m law s rest (length old - j) views e shown room)
               ∙ rw (less, drop-drop takes i input, front) (sym (join-assoc (acted (take j reply) i s) (acted said takes (m .after s view)) after));
         }
+
+    -- one that sends nothing, and one that sends a byte
+    module _ {Good : A → Type 0} {Sound : S → Type 0} (law : Lawful m Good Sound) (views : ℕ) (e : m .need s ≡ acts views) (h : i + views ≤ length input) where
+      pub reached-silent : let view = take views (drop i input) in m .says s view ≡ [] → Reached m s₀ input old (m .after s view) (i + m .takes s view) j reply
+      reached-silent q =
+          rw (q, add-zero) at
+          (reached-act law views e h (rw (q, add-zero) (r .sent-fits)) reply refl (rw (q, add-zero) (sym (append-nil (take j reply)))) (rw q refl))
+
+      pub reached-byte : (b : ℕ) → let view = take views (drop i input) in m .says s view ≡ b ∷ [] → j < length reply →
+          Reached m s₀ input old (m .after s view) (i + m .takes s view) (j + 1) (set reply j b)
+      reached-byte b q f =
+          rw q at
+          (reached-act law views e h (rw q (omega arith)) (set reply j b) (length-set reply j b)
+          (rw (q, add-one) (take-suc-set reply j b f)) (rw q (drop-set-lt (j + 1) reply j b (omega arith))))
 
     -- where the loop stops, the call has stopped
     done : (stands : ℕ) → call m s (drop i input) (length old - j) ≡ halt s → stands ≡ standing m s (drop i input) → Acted m s₀ input old i j stands s reply
@@ -81,17 +97,17 @@ module _ {A S : Type 0} (m : Machine A S) (s₀ : S) (input : List A) (old : Lis
     pub acted-runs : m .need s ≡ runs → Acted m s₀ input old i j 3 s reply
     acted-runs e = done 3 (call-run m s (drop i input) (length old - j) e) (rw e refl)
 
-    pub acted-short : (views takes : ℕ) → m .need s ≡ acts views takes → length input < i + views → Acted m s₀ input old i j 1 s reply
-    acted-short views takes e h =
+    pub acted-short : (views : ℕ) → m .need s ≡ acts views → length input < i + views → Acted m s₀ input old i j 1 s reply
+    acted-short views e h =
         let short : length (drop i input) < views = omega (arith, length-drop i input, r .taken-fits) in
-        done 1 (call-short m s (drop i input) (length old - j) views takes e short) (rw (e, lt-ltb _ _ short) refl)
+        done 1 (call-short m s (drop i input) (length old - j) views e short) (rw (e, lt-ltb _ _ short) refl)
 
-    pub acted-full : (views takes : ℕ) → m .need s ≡ acts views takes → i + views ≤ length input →
+    pub acted-full : (views : ℕ) → m .need s ≡ acts views → i + views ≤ length input →
         length reply < j + length (m .says s (take views (drop i input))) → Acted m s₀ input old i j 2 s reply
-    acted-full views takes e h f =
+    acted-full views e h f =
         let shown : views ≤ length (drop i input) = omega (arith, length-drop i input, r .taken-fits) in
         let full : length old - j < length (m .says s (take views (drop i input))) = omega (arith, f, r .same-length, r .sent-fits) in
-        done 2 (call-full m s (drop i input) (length old - j) views takes e full) (rw (e, le-ltb _ _ shown) refl)
+        done 2 (call-full m s (drop i input) (length old - j) views e full) (rw (e, le-ltb _ _ shown) refl)
 
 -- the same for a line
 module _ {A S : Type 0} (need : S → Need) (took : S → A → S) (byte : S → ℕ) (sent : S → S) (due : S → ℕ) where
@@ -103,17 +119,14 @@ module _ {A S : Type 0} (need : S → Need) (took : S → A → S) (byte : S →
     pub reached-take : (d : A) → need s ≡ machine.take → i < length input → Reached m s₀ input old (took s (getD input i d)) (i + 1) j reply
     reached-take d e h =
         let view : take 1 (drop i input) ≡ getD input i d ∷ [] = rw (drop-cons input i d h) refl in
-        rw (view, add-zero) at
-        (reached-act m s₀ input old s i j reply r law 1 1 e (omega arith) (rw (view, add-zero) (r .sent-fits)) reply refl (rw (view, add-zero) (sym (append-nil (take j reply)))) (rw view refl))
+        rw view at (reached-silent m s₀ input old s i j reply r law 1 e (omega arith) (rw view refl))
 
     pub reached-send : need s ≡ machine.send → j < length reply → Reached m s₀ input old (sent s) i (j + 1) (set reply j (byte s))
     reached-send e h =
-        rw add-zero at
-        (reached-act m s₀ input old s i j reply r law 0 0 e (omega (arith, r .taken-fits)) (omega arith) (set reply j (byte s)) (length-set reply j (byte s))
-        (rw add-one (take-suc-set reply j (byte s) h)) (drop-set-lt (j + 1) reply j (byte s) (omega arith)))
+        rw add-zero at (reached-byte m s₀ input old s i j reply r law 0 e (omega (arith, r .taken-fits)) (byte s) refl h)
 
     pub acted-hungry : need s ≡ machine.take → length input ≤ i → Acted m s₀ input old i j 1 s reply
-    acted-hungry e h = acted-short m s₀ input old s i j reply r 1 1 e (omega arith)
+    acted-hungry e h = acted-short m s₀ input old s i j reply r 1 e (omega arith)
 
     pub acted-choked : need s ≡ machine.send → length reply ≤ j → Acted m s₀ input old i j 2 s reply
-    acted-choked e h = acted-full m s₀ input old s i j reply r 0 0 e (omega (arith, r .taken-fits)) (omega arith)
+    acted-choked e h = acted-full m s₀ input old s i j reply r 0 e (omega (arith, r .taken-fits)) (omega arith)

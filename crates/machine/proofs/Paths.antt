@@ -45,14 +45,14 @@ module _ {A S : Type 0} (m : Machine A S) {Good : A → Type 0} {Sound : S → T
   pub path-keeps : {P : List (Event A S) → S → Type 0} → Kept m Good P → Every Good stream → P [] start →
       {events : List (Event A S)} {o : Outcome S} → Path m start stream events o → P events (o .final)
   path-keeps k w h here = h
-  path-keeps k w h (more {events = events} {o = o} {views = views} {takes = takes} {view = view} p e v l) =
-      k events (o .final) view views takes e l (rw v (every-take Good views (drop (o .taken) stream) (every-drop Good (o .taken) stream w))) (path-keeps k w h p)
+  path-keeps k w h (more {events = events} {o = o} {views = views} {view = view} p e v l) =
+      k events (o .final) view views e l (rw v (every-take Good views (drop (o .taken) stream) (every-drop Good (o .taken) stream w))) (path-keeps k w h p)
 
   -- one action more
-  came-on : (o : Outcome S) → Came m start stream o → (views takes : ℕ) → m .need (o .final) ≡ acts views takes →
+  pub came-on : (o : Outcome S) → Came m start stream o → (views : ℕ) → m .need (o .final) ≡ acts views →
       (view : List A) → view ≡ take views (drop (o .taken) stream) → length view ≡ views →
-      Came m start stream (join o (acted (m .says (o .final) view) takes (m .after (o .final) view)))
-  came-on o c views takes e view v l = record { events = _; path = more (c .path) e v l }
+      Came m start stream (join o (acted (m .says (o .final) view) (m .takes (o .final) view) (m .after (o .final) view)))
+  came-on o c views e view v l = record { events = _; path = more (c .path) e v l }
 
   -- so many actions on a front of what is not yet taken
   Acts : (fuel : ℕ) → Type 0
@@ -68,7 +68,7 @@ module _ {A S : Type 0} (m : Machine A S) {Good : A → Type 0} {Sound : S → T
 
       go : (n : Need) → m .need (o .final) ≡ n → Came m start stream (join o (act m (suc k) n (o .final) inp room))
       go runs e = stays
-      go (acts views takes) e = cases (leb views (length inp) && leb (length said) room) passes (λ f. rw f stays)
+      go (acts views) e = cases (leb views (length inp) && leb (length said) room) passes (λ f. rw f stays)
         where
           view : List A
           view = take views inp
@@ -76,15 +76,18 @@ module _ {A S : Type 0} (m : Machine A S) {Good : A → Type 0} {Sound : S → T
           said : List ℕ
           said = m .says (o .final) view
 
+          takes : ℕ
+          takes = m .takes (o .final) view
+
           next : Outcome S
           next = acted said takes (m .after (o .final) view)
 
           passes : (leb views (length inp) && leb (length said) room) ≡ true →
-              Came m start stream (join o (act m (suc k) (acts views takes) (o .final) inp room))
+              Came m start stream (join o (act m (suc k) (acts views) (o .final) inp room))
           passes t =
               let shown : views ≤ length inp = leb-true _ _ (both-true (leb views (length inp)) (leb (length said) room) t .0) in
-              let inside : takes ≤ views = law .takes-in-view (o .final) views takes e in
-              let on = came-on o c views takes e view (begins-take inp (drop (o .taken) stream) views b shown) (length-take-le views inp shown) in
+              let inside : takes ≤ views = rw (length-take-le views inp shown) at (law .takes-in-view (o .final) view) in
+              let on = came-on o c views e view (begins-take inp (drop (o .taken) stream) views b shown) (length-take-le views inp shown) in
               let left : Begins (drop takes inp) (drop (o .taken + takes) stream) = rw (← drop-drop takes (o .taken) stream) (begins-drop inp (drop (o .taken) stream) takes b (omega arith)) in
               let rest = ih (join o next) on (drop takes inp) left (room - length said) in
               rw t (subst (λ (x : Outcome S). Came m start stream x) (join-assoc o next _) rest)
@@ -128,12 +131,13 @@ module _ {A S : Type 0} (m : Machine A S) {Good : A → Type 0} {Sound : S → T
   pub path-continues : Sound start → Every Good stream → {events : List (Event A S)} {o : Outcome S} → Path m start stream events o →
       uncut m start stream ≡ join o (uncut m (o .final) (drop (o .taken) stream))
   path-continues g w here = sym (halt-join start (uncut m start stream))
-  path-continues g w (more {o = o} {views = views} {takes = takes} {view = view} p e v l) =
+  path-continues g w (more {o = o} {views = views} {view = view} p e v l) =
       let rest = drop (o .taken) stream in
       let sound : Sound (o .final) = path-keeps (law .stays-sound) w g p in
       let short : length (take views rest) ≡ views = rw (← v) l in
       let shown : views ≤ length rest = enough views rest short in
-      let one = uncut-act m law (o .final) sound rest views takes e shown in
+      let one = uncut-act m law (o .final) sound rest views e shown in
+      let takes = m .takes (o .final) (take views rest) in
       path-continues g w p
       ∙ ap (join o) one
       ∙ rw (v, ← drop-drop takes (o .taken) stream) (sym (join-assoc o (acted (m .says (o .final) (take views rest)) takes (m .after (o .final) (take views rest))) (uncut m (m .after (o .final) (take views rest)) (drop takes rest))))
@@ -153,12 +157,12 @@ module _ {A S : Type 0} (m : Machine A S) {Good : A → Type 0} {Sound : S → T
           ((p : Outcome S) → Came m start stream p → Came m start stream (join p (drainAt m k (m .need (p .final)) (p .final)))) →
           Came m start stream (join o (drainAt m (suc k) n (o .final)))
       go runs e ih = stays
-      go (acts (suc views) takes) e ih = stays
-      go (acts zero (suc takes)) e ih = absurd (let z : ⊥ = omega (arith, law .takes-in-view (o .final) 0 (suc takes) e) in z)
-      go (acts zero zero) e ih =
+      go (acts (suc views)) e ih = stays
+      go (acts zero) e ih =
           let next = m .after (o .final) [] in
+          let none : m .takes (o .final) [] ≡ 0 = omega (arith, law .takes-in-view (o .final) []) in
           let one = acted (m .says (o .final) []) 0 next in
-          subst (λ (x : Outcome S). Came m start stream x) (join-assoc o one (drainAt m k (m .need next) next)) (ih (join o one) (came-on o c 0 0 e [] refl refl))
+          subst (λ (x : Outcome S). Came m start stream x) (join-assoc o one (drainAt m k (m .need next) next)) (ih (join o one) (rw none at (came-on o c 0 e [] refl refl)))
 
   -- the uncut definition from a state where nothing is due
   Feeds : (fuel : ℕ) → Type 0
@@ -176,8 +180,8 @@ module _ {A S : Type 0} (m : Machine A S) {Good : A → Type 0} {Sound : S → T
 
       go : (n : Need) → m .need (o .final) ≡ n → Came m start stream (join o (feed m (suc k) n (o .final) rest))
       go runs e = stays
-      go (acts zero takes) e = stays
-      go (acts (suc views) takes) e = cases (leb (suc views) (length rest)) passes (λ f. rw f stays)
+      go (acts zero) e = stays
+      go (acts (suc views)) e = cases (leb (suc views) (length rest)) passes (λ f. rw f stays)
         where
           view : List A
           view = take (suc views) rest
@@ -185,15 +189,18 @@ module _ {A S : Type 0} (m : Machine A S) {Good : A → Type 0} {Sound : S → T
           next : S
           next = m .after (o .final) view
 
+          takes : ℕ
+          takes = m .takes (o .final) view
+
           one : Outcome S
           one = acted (m .says (o .final) view) takes next
 
           due : Outcome S
           due = drainAt m (m .due next) (m .need next) next
 
-          passes : leb (suc views) (length rest) ≡ true → Came m start stream (join o (feed m (suc k) (acts (suc views) takes) (o .final) rest))
+          passes : leb (suc views) (length rest) ≡ true → Came m start stream (join o (feed m (suc k) (acts (suc views)) (o .final) rest))
           passes t =
-              let on = came-on o c (suc views) takes e view refl (length-take-le (suc views) rest (leb-true _ _ t)) in
+              let on = came-on o c (suc views) e view refl (length-take-le (suc views) rest (leb-true _ _ t)) in
               let drained = drain-came (m .due next) (join o one) on in
               let last = ih (join (join o one) due) drained in
               let same : drop (o .taken + takes + due .taken) stream ≡ drop takes rest =

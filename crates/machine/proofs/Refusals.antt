@@ -1,6 +1,6 @@
 -- What a refused call hands back, and what an accepted one went by.
 -- Assumes nothing.
-use Prim.Native.Nat.{ℕ}
+use Prim.Native.Nat.{ℕ, _<_}
 use native.Mathlib.Omega.{arith}
 use mathlib.Core.Path.{_≡_, refl}
 use mathlib.Core.Bool.{Bool, true, false, cond}
@@ -11,7 +11,7 @@ use borrow.Table.Steps.{cases}
 use Rattle.machine.specs.Session.{Session, Read, sound, unsound, refused, accepted, readAnswer, answerOf}
 use Rattle.machine.specs.declared.Record.{Record}
 
-pub refused-keeps : {M S : Type 0} (σ : Session M S) (r : Record) (mem : M) (input reply : List ℕ) →
+pub refused-keeps : {A M S : Type 0} (σ : Session A M S) (r : Record) (mem : M) (input : List A) (reply : List ℕ) →
     (answerOf σ r mem input reply .report .number ≡ 0 → ⊥) → answerOf σ r mem input reply .report .session ≡ r
 unfolding answerOf accepted
 refused-keeps σ r mem input reply h = go (eqb (σ .refusal mem) 0) (σ .read r mem) h
@@ -24,20 +24,31 @@ refused-keeps σ r mem input reply h = go (eqb (σ .refusal mem) 0) (σ .read r 
     go false s h = refl
 
 -- what an accepted call went by
-pub record Accepts {M S : Type 0} (σ : Session M S) (r : Record) (mem : M) (input reply : List ℕ) : Type 0 where
+pub record Accepts {A M S : Type 0} (σ : Session A M S) (r : Record) (mem : M) (input : List A) (reply : List ℕ) : Type 0 where
   pub state : S
   pub fits : σ .refusal mem ≡ 0
   pub read-is : σ .read r mem ≡ sound state
   pub answer-is : answerOf σ r mem input reply ≡ accepted σ state input reply
 
-pub accepts : {M S : Type 0} (σ : Session M S) (r : Record) (mem : M) (input reply : List ℕ) → answerOf σ r mem input reply .report .number ≡ 0 →
+pub accepts : {A M S : Type 0} (σ : Session A M S) (r : Record) (mem : M) (input : List A) (reply : List ℕ) → answerOf σ r mem input reply .report .number ≡ 0 →
     Accepts σ r mem input reply
 unfolding answerOf
-accepts {M} {S} σ r mem input reply e = cases (eqb (σ .refusal mem) 0) (λ t. reads t (σ .read r mem) refl) (λ f. absurd (eqb-false _ _ f (rw f at e)))
+accepts {A} {M} {S} σ r mem input reply e = cases (eqb (σ .refusal mem) 0) (λ t. reads t (σ .read r mem) refl) (λ f. absurd (eqb-false _ _ f (rw f at e)))
   where
     reads : eqb (σ .refusal mem) 0 ≡ true → (d : Read S) → σ .read r mem ≡ d → Accepts σ r mem input reply
     reads t (sound s) q = record { state = s; fits = eqb-true _ _ t; read-is = q; answer-is = rw (t, q) refl }
     reads t unsound q = absurd (let z : _≡_ {A = ℕ} 4 0 = rw (t, q) at e in omega arith)
+
+-- the same of a call that stands somewhere
+pub accepts-standing : {A M S : Type 0} (σ : Session A M S) (r : Record) (mem : M) (input : List A) (reply : List ℕ) {standing : ℕ} →
+    answerOf σ r mem input reply .report .standing ≡ standing → 0 < standing → Accepts σ r mem input reply
+unfolding answerOf
+accepts-standing {A} {M} {S} σ r mem input reply {standing} e h =
+    cases (eqb (σ .refusal mem) 0) (λ t. reads t (σ .read r mem) refl) (λ f. absurd (let z : 0 ≡ standing = rw f at e in let y : ⊥ = omega arith in y))
+  where
+    reads : eqb (σ .refusal mem) 0 ≡ true → (d : Read S) → σ .read r mem ≡ d → Accepts σ r mem input reply
+    reads t (sound s) q = record { state = s; fits = eqb-true _ _ t; read-is = q; answer-is = rw (t, q) refl }
+    reads t unsound q = absurd (let z : 0 ≡ standing = rw (t, q) at e in let y : ⊥ = omega arith in y)
 
 -- what is read stands for one state
 pub sound-same : {S : Type 0} (a b : S) → sound a ≡ sound b → a ≡ b

@@ -34,11 +34,11 @@ module _ {S : Type 0} (need : S → Need) (took : S → ℕ → S) (byte : S →
 module _ {S : Type 0} (m : Machine ℕ S) (P : S → Type 0) (kept : Kept m Any (λ _ s. P s)) where
   pub takes-keep : {input : List ℕ} {i count : ℕ} {s t : S} → Takes m input i s count t → P s → P t
   takes-keep steps.none p = p
-  takes-keep {input} {i} (steps.more {count} {t} before e h) p = kept [] t (getD input (i + count) 0 ∷ []) 1 1 e refl (tt, tt) (takes-keep before p)
+  takes-keep {input} {i} (steps.more {count} {t} before e h) p = kept [] t (getD input (i + count) 0 ∷ []) 1 e refl (tt, tt) (takes-keep before p)
 
   pub sends-keep : {j count : ℕ} {s t : S} {old reply : List ℕ} → Sends m s j old count t reply → P s → P t
   sends-keep steps.none p = p
-  sends-keep (steps.more {count} {byte = b} {t} before e says h) p = kept [] t [] 0 0 e refl tt (sends-keep before p)
+  sends-keep (steps.more {count} {byte = b} {t} before e says h) p = kept [] t [] 0 e refl tt (sends-keep before p)
 
 -- the reply slice keeps its length
 pub sends-length : {S : Type 0} (k : Machine ℕ S) {j count : ℕ} {s t : S} {old reply : List ℕ} → Sends k s j old count t reply → length reply ≡ length old

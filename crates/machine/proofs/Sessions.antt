@@ -1,6 +1,6 @@
 -- A list of calls to a faithful session follows the uncut definition.
 -- Assumes nothing.
-use Prim.Native.Nat.{ℕ, zero, suc, _≤_, _<_}
+use Prim.Native.Nat.{ℕ, zero, suc, _+_, _≤_, _<_}
 use native.Mathlib.Omega.{arith}
 use mathlib.Core.Path.{_≡_, refl, sym, ap, _∙_}
 use mathlib.Core.List.{List, [], _∷_, map}
@@ -11,22 +11,23 @@ use Rattle.machine.specs.Machine.{Need, acts, runs, Machine}
 use Rattle.machine.specs.Outcome.{Outcome, halt, join}
 use Rattle.machine.specs.Call.{Call, offered, standing, call, calls}
 use Rattle.machine.specs.History.{Event, Came}
-use Rattle.machine.specs.Lawful.{Every}
+use Rattle.machine.specs.Lawful.{Every, Lawful}
 use Rattle.machine.specs.Claim.{Stopped}
 use Rattle.machine.specs.Session.{Session, Answer, refused, accepted, answerOf}
-use Rattle.machine.specs.SessionLaws.{Byte, Faithful}
+use Rattle.machine.specs.SessionLaws.{OneByOne, Faithful}
 use Rattle.machine.specs.Listing.{Lent, totals, answers, given, Made, none, next}
 use Rattle.machine.specs.SessionClaim as claim
-use Rattle.machine.specs.SessionClaim.{TookAll, Follows, Claim, MadeClaim}
+use Rattle.machine.specs.SessionClaim.{Stops, Starves, TakesAll, Follows, Claim, MadeClaim}
 use Rattle.machine.specs.declared.Record.{Record}
 use Rattle.machine.proofs.Outcomes.{halt-join}
 use Rattle.machine.proofs.Actions.{call-run, call-short, call-full}
 use Rattle.machine.proofs.Paths.{path-keeps, call-came, calls-came, at-start}
-use Rattle.machine.proofs.Stops.{stands-running, stands-waiting, call-blocked}
+use Rattle.machine.proofs.Stops.{stands-running, stands-waiting, call-blocked, still}
+use Rattle.machine.proofs.Refusals.{Accepts, accepts-standing}
 use Rattle.machine.proofs.Cuts.{came-holds}
 
 -- what a program's calls gave back is what the definition gives
-pub made-answers : {M S : Type 0} (σ : Session M S) {session : Record} {mem : M} {rest : List ℕ} {cs : List Lent} {given : List (Answer M)} →
+pub made-answers : {A M S : Type 0} (σ : Session A M S) {session : Record} {mem : M} {rest : List A} {cs : List Lent} {given : List (Answer M)} →
     Made σ session mem rest cs given → given ≡ answers σ session mem rest cs
 unfolding answers
 made-answers σ none = refl
@@ -35,42 +36,61 @@ made-answers σ {session} {mem} {rest} (next {c = c} {later = later} {a = a} {ot
     ∙ ap (λ (x : Answer _). x ∷ answers σ (x .report .session) (x .memories) (drop (x .report .taken) rest) later) e
 
 -- refused lengths: every call is refused, and the next one finds everything as it was
-refused-all : {M S : Type 0} (σ : Session M S) (session : Record) (mem : M) → (σ .refusal mem ≡ 0 → ⊥) → (rest : List ℕ) (cs : List Lent) →
+refused-all : {A M S : Type 0} (σ : Session A M S) (session : Record) (mem : M) → (σ .refusal mem ≡ 0 → ⊥) → (rest : List A) (cs : List Lent) →
     answers σ session mem rest cs ≡ map (λ (c : Lent). refused (σ .refusal mem) session (c .reply) mem) cs
 unfolding answers answerOf
 refused-all σ session mem h rest [] = refl
 refused-all σ session mem h rest (c ∷ cs) =
     rw (ne-eqb _ _ h) (ap (λ (os : List (Answer _)). refused (σ .refusal mem) session (c .reply) mem ∷ os) (refused-all σ session mem h rest cs))
 
+-- where no action has more than `slot` symbols in view, a call that waits leaves fewer
+pub leaves-less : {A M S : Type 0} (σ : Session A M S) {Good : A → Type 0} {Sound : S → Type 0} → Lawful (σ .machine) Good Sound →
+    (slot : ℕ) → ((s : S) (views : ℕ) → σ .machine .need s ≡ acts views → views ≤ slot) →
+    (session : Record) (mem : M) (input : List A) (reply : List ℕ) → answerOf σ session mem input reply .report .standing ≡ 1 →
+    let taken = answerOf σ session mem input reply .report .taken in
+    (taken ≤ length input) × (length input < taken + slot)
+unfolding accepted
+leaves-less σ law slot most session mem input reply e =
+    let m = σ .machine in
+    let k = accepts-standing σ session mem input reply e (omega arith) in
+    let p = call m (k .state) input (length reply) in
+    let within : p .taken ≤ length input = call-blocked m law (k .state) input (length reply) .within in
+    let l = stands-waiting (m .need (p .final)) (length (drop (p .taken) input)) (rw (k .answer-is) at e) in
+    rw (k .answer-is) (within, omega (arith, l .less, most (p .final) (l .views) (l .need-is), length-drop (p .taken) input))
+
+-- one by one: it has taken all it was shown
+pub takes-all : {A M S : Type 0} (σ : Session A M S) {Good : A → Type 0} {Sound : S → Type 0} → Lawful (σ .machine) Good Sound → OneByOne (σ .machine) → TakesAll σ
+takes-all σ law one session mem input reply e = omega (arith, leaves-less σ law 1 one session mem input reply e)
+
 -- the calls of the machine behind a list
 abbrev callOf : Lent → Call
 callOf c = offered (c .shown) (length (c .reply))
 
-module _ {M S : Type 0} (σ : Session M S) {fresh : M → S} {Sound : S → Type 0} {Invariant Told : List (Event ℕ S) → S → Type 0}
-    (law : Faithful σ fresh Sound Invariant) (tells : (events : List (Event ℕ S)) (s : S) → Invariant events s → Told events s) where
-  abbrev m : Machine ℕ S
+module _ {A M S : Type 0} (σ : Session A M S) {Good : A → Type 0} {fresh : M → S} {Sound : S → Type 0} {Invariant Told : List (Event A S) → S → Type 0}
+    (law : Faithful σ Good fresh Sound Invariant) (tells : (events : List (Event A S)) (s : S) → Invariant events s → Told events s) where
+  abbrev m : Machine A S
   m = σ .machine
 
   -- a call with the record and the memories of a sound state
-  answer-is : (s : S) → Sound s → (input reply : List ℕ) → answerOf σ (σ .write s) (σ .memories s) input reply ≡ accepted σ s input reply
+  pub answer-is : (s : S) → Sound s → (input : List A) (reply : List ℕ) → answerOf σ (σ .write s) (σ .memories s) input reply ≡ accepted σ s input reply
   unfolding answerOf
   answer-is s g input reply = simp (eq-eqb _ _ (law .fits s g), law .reads-back s g)
 
   -- with no input and no room nothing happens
-  quiet : (s : S) → call m s [] 0 ≡ halt s
+  pub quiet : (s : S) → call m s [] 0 ≡ halt s
   quiet s = go (m .need s) refl
     where
       go : (n : Need) → m .need s ≡ n → call m s [] 0 ≡ halt s
       go runs e = call-run m s [] 0 e
-      go (acts zero takes) e = call-full m s [] 0 0 takes e (law .speaks s takes e)
-      go (acts (suc views) takes) e = call-short m s [] 0 (suc views) takes e (omega arith)
+      go (acts zero) e = call-full m s [] 0 0 e (law .speaks s e)
+      go (acts (suc views)) e = call-short m s [] 0 (suc views) e (omega arith)
 
   quiet-standing : (s : S) → Sound s → answerOf σ (σ .write s) (σ .memories s) [] [] .report .standing ≡ standing m s []
   unfolding accepted
   quiet-standing s g = rw (answer-is s g [] [], quiet s) refl
 
-  module _ (start : S) (good : Sound start) (stream : List ℕ) (w : Every Byte stream) where
-    came-sound : (o : Outcome S) → Came m start stream o → Sound (o .final)
+  module _ (start : S) (good : Sound start) (stream : List A) (w : Every Good stream) where
+    pub came-sound : (o : Outcome S) → Came m start stream o → Sound (o .final)
     came-sound o c = path-keeps m (law .lawful) start stream (law .lawful .stays-sound) w good (c .path)
 
     -- the totals of a list are those of the machine's calls
@@ -110,20 +130,22 @@ module _ {M S : Type 0} (σ : Session M S) {fresh : M → S} {Sound : S → Type
           let here : standing m (o .final) [] ≡ 3 = sym (quiet-standing (o .final) (came-sound o c)) ∙ e in
           Stopped.running (rw (stands-running (m .need (o .final)) 0 here) refl)
 
-      -- a call that doesn't wait for room took all it was shown, unless code runs
-      took-all : (input reply : List ℕ) → let p = call m (o .final) input (length reply) in
-          Stopped m (p .final) (drop (p .taken) input) → TookAll input (answerOf σ (σ .write (o .final)) (σ .memories (o .final)) input reply)
+      -- and so has one that, shown what is left, takes nothing and waits
+      starves-stopped : Starves (answerOf σ (σ .write (o .final)) (σ .memories (o .final)) (drop (o .taken) stream) []) → Stopped m (o .final) (drop (o .taken) stream)
       unfolding accepted
-      took-all input reply (Stopped.running e) = rw (answer-is (o .final) (came-sound o c) input reply) (claim.running e)
-      took-all input reply (Stopped.waits e) =
-          let p = call m (o .final) input (length reply) in
-          let within : p .taken ≤ length input = call-blocked m (law .lawful) (o .final) input (length reply) .within in
-          let l = stands-waiting (m .need (p .final)) (length (drop (p .taken) input)) e in
-          let none : length (drop (p .taken) input) < 1 = omega (arith, l .less, law .one-by-one (p .final) (l .views) (l .takes) (l .need-is)) in
-          let all : p .taken ≡ length input = omega (arith, within, none, length-drop (p .taken) input) in
-          rw (answer-is (o .final) (came-sound o c) input reply) (claim.waits all e)
+      starves-stopped h =
+          let rest = drop (o .taken) stream in
+          let same = answer-is (o .final) (came-sound o c) rest [] in
+          still m (law .lawful) (o .final) rest (rw same at (h .took-nothing)) (rw same at (h .waits))
 
-      follows : Invariant [] start → Follows σ Told start stream (given σ o)
+      -- a call that doesn't wait for room
+      stops : (input : List A) (reply : List ℕ) → let p = call m (o .final) input (length reply) in
+          Stopped m (p .final) (drop (p .taken) input) → Stops (answerOf σ (σ .write (o .final)) (σ .memories (o .final)) input reply)
+      unfolding accepted
+      stops input reply (Stopped.running e) = rw (answer-is (o .final) (came-sound o c) input reply) (claim.running e)
+      stops input reply (Stopped.waits e) = rw (answer-is (o .final) (came-sound o c) input reply) (Stops.waits e)
+
+      pub follows : Invariant [] start → Follows σ Told start stream (given σ o)
       follows first =
           let h = came-holds m (law .lawful) start good stream w o c in
           let b = h .replies-begin in
@@ -133,7 +155,8 @@ module _ {M S : Type 0} (σ : Session M S) {fresh : M → S} {Sound : S → Type
             sent-within = omega (arith, ap length (b .is), length-append (o .replies) (b .back));
             all-taken = λ full e. ap (given σ) (h .stopped (waits-stopped full e));
             code-runs = λ e. ap (given σ) (h .stopped (runs-stopped e));
-            enough-room = λ shown reply r. took-all (take shown (drop (o .taken) stream)) reply (h .enough-room shown (length reply) r);
+            too-few-left = λ e. ap (given σ) (h .stopped (starves-stopped e));
+            enough-room = λ shown reply r. stops (take shown (drop (o .taken) stream)) reply (h .enough-room shown (length reply) r);
             reached = o .final;
             reached-is = (refl, refl);
             reads-as = law .reads-back (o .final) (came-sound o c);
@@ -142,7 +165,7 @@ module _ {M S : Type 0} (σ : Session M S) {fresh : M → S} {Sound : S → Type
           }
 
   -- the claim about a whole list of calls
-  pub session-claim : Claim σ Told fresh
+  pub session-claim : Claim σ Good Told fresh
   session-claim mem stream w cs =
       record {
         refused-lengths = λ h. refused-all σ (σ .write (fresh mem)) mem h stream cs;
@@ -159,5 +182,5 @@ module _ {M S : Type 0} (σ : Session M S) {fresh : M → S} {Sound : S → Type
       }
 
   -- and about what a program's calls gave back
-  pub made-claim : MadeClaim σ Told fresh
+  pub made-claim : MadeClaim σ Good Told fresh
   made-claim mem stream w cs given made = rw (made-answers σ made) (session-claim mem stream w cs)

@@ -1,16 +1,17 @@
 -- The laws can be met by actions that neither take one symbol nor send with nothing in view: a slot of several symbols with one byte in
--- answer, and a look at a symbol that stays. So the claim holds of these as well.
+-- answer, and a look at a symbol, which stays or is taken by what it is. So the claim holds of these as well.
 -- Assumes nothing.
-use Prim.Native.Nat.{ℕ, suc, _<_}
+use Prim.Native.Nat.{ℕ, suc, _≤_, _<_}
 use native.Mathlib.Omega.{arith}
 use mathlib.Core.Path.{_≡_, refl, sym, ap}
-use mathlib.Core.Bool.{Bool, true, false}
-use mathlib.Core.List.{[], _∷_}
+use mathlib.Core.Bool.{Bool, true, false, cond}
+use mathlib.Core.List.{List, [], _∷_}
+use lib.Dec.{eqb}
+use lib.ListN.{length}
 use Rattle.machine.specs.Machine.{Need, acts, runs, Machine}
 use Rattle.machine.specs.Lawful.{takes-one, stops, Lawful}
 use Rattle.machine.specs.Claim.{Claim}
 use Rattle.machine.proofs.Stops.{viewsOf, not-both}
-use Rattle.machine.proofs.Lines.{takesOf}
 use Rattle.machine.proofs.Cuts.{cuts-never-matter}
 
 abbrev Any : {X : Type 0} → X → Type 0
@@ -18,39 +19,51 @@ Any x = Unit {0}
 
 -- slots of `width` symbols: each is taken whole, answered with one byte, and counted
 abbrev slots : (width : ℕ) → Machine ℕ ℕ
-slots width = record { need = λ s. acts width width; after = λ s view. suc s; says = λ s view. 0xAA ∷ []; due = λ s. 0 }
+slots width = record { need = λ s. acts width; after = λ s view. suc s; says = λ s view. 0xAA ∷ []; takes = λ s view. length view; due = λ s. 0 }
 
 slots-lawful : (width : ℕ) → 0 < width → Lawful (slots width) Any Any
 slots-lawful width some =
     record {
-      stays-sound = λ events s view views takes e l w g. tt;
-      takes-in-view = λ s views takes e. let v : width ≡ views = ap viewsOf e in let t : width ≡ takes = ap takesOf e in omega arith;
-      moves = λ s view views takes e l. let t : width ≡ takes = ap takesOf e in takes-one (omega arith);
-      due-falls = λ s takes g e. let v : width ≡ 0 = ap viewsOf e in absurd (let z : ⊥ = omega arith in z);
+      stays-sound = λ events s view views e l w g. tt;
+      takes-in-view = λ s view. omega arith;
+      moves = λ s view views e l. let v : width ≡ views = ap viewsOf e in takes-one (omega arith);
+      due-falls = λ s g e. let v : width ≡ 0 = ap viewsOf e in absurd (let z : ⊥ = omega arith in z);
     }
 
 pub slots-never-matter : (width : ℕ) → 0 < width → Claim (slots width) Any Any
 slots-never-matter width some = cuts-never-matter (slots width) (slots-lawful width some)
 
--- a look at one symbol, which stays; then nothing follows
+-- a look at one symbol: 02 stays, any other is taken; then nothing follows
 abbrev lookNeed : (seen : Bool) → Need
-lookNeed false = acts 1 0
+lookNeed false = acts 1
 lookNeed true = runs
 
-abbrev looks : Machine ℕ Bool
-looks = record { need = lookNeed; after = λ s view. true; says = λ s view. []; due = λ s. 0 }
+abbrev lookTakes : (view : List ℕ) → ℕ
+lookTakes [] = 0
+lookTakes (a ∷ view) = cond (eqb a 0x02) 0 1
 
-look-views : (s : Bool) (views takes : ℕ) → lookNeed s ≡ acts views takes → (views ≡ 1) × (takes ≡ 0)
-look-views false views takes e = (sym (ap viewsOf e), sym (ap takesOf e))
-look-views true views takes e = absurd (not-both views takes e)
+abbrev looks : Machine ℕ Bool
+looks = record { need = lookNeed; after = λ s view. true; says = λ s view. []; takes = λ s view. lookTakes view; due = λ s. 0 }
+
+look-views : (s : Bool) (views : ℕ) → lookNeed s ≡ acts views → views ≡ 1
+look-views false views e = sym (ap viewsOf e)
+look-views true views e = absurd (not-both views e)
+
+look-takes : (view : List ℕ) → lookTakes view ≤ length view
+look-takes [] = omega arith
+look-takes (a ∷ view) = one (eqb a 0x02)
+  where
+    one : (t : Bool) → cond t 0 1 ≤ suc (length view)
+    one true = omega arith
+    one false = omega arith
 
 looks-lawful : Lawful looks Any Any
 looks-lawful =
     record {
-      stays-sound = λ events s view views takes e l w g. tt;
-      takes-in-view = λ s views takes e. omega (arith, look-views s views takes e);
-      moves = λ s view views takes e l. stops refl;
-      due-falls = λ s takes g e. absurd (let z : ⊥ = omega (arith, look-views s 0 takes e) in z);
+      stays-sound = λ events s view views e l w g. tt;
+      takes-in-view = λ s view. look-takes view;
+      moves = λ s view views e l. stops refl;
+      due-falls = λ s g e. absurd (let z : ⊥ = omega (arith, look-views s 0 e) in z);
     }
 
 pub looks-never-matter : Claim looks Any Any

@@ -16,7 +16,7 @@ pub data Call : Type 0 where
 
 -- where a call has stopped, with so many symbols left: 1 an action needs more, 2 it needs room, 3 code runs
 abbrev pub standingOf : Need → (left : ℕ) → ℕ
-standingOf (acts views takes) left = cond (ltb left views) 1 2
+standingOf (acts views) left = cond (ltb left views) 1 2
 standingOf runs left = 3
 
 module _ {A S : Type 0} (m : Machine A S) where
@@ -27,9 +27,10 @@ module _ {A S : Type 0} (m : Machine A S) where
   unfoldable pub act : (fuel : ℕ) → Need → S → (input : List A) (room : ℕ) → Outcome S
   act zero need s input room = halt s
   act (suc fuel) runs s input room = halt s
-  act (suc fuel) (acts views takes) s input room =
+  act (suc fuel) (acts views) s input room =
       let view = take views input in
       let said = m .says s view in
+      let takes = m .takes s view in
       let next = m .after s view in
       cond (leb views (length input) && leb (length said) room)
       (join (acted said takes next) (act fuel (m .need next) next (drop takes input) (room - length said)))
@@ -44,7 +45,7 @@ module _ {A S : Type 0} (m : Machine A S) where
   pub record Blocked (input : List A) (room : ℕ) (o : Outcome S) : Type 0 where
     pub within : o .taken ≤ length input
     pub fits : length (o .replies) ≤ room
-    pub full : (views takes : ℕ) → m .need (o .final) ≡ acts views takes → views ≤ length (drop (o .taken) input) →
+    pub full : (views : ℕ) → m .need (o .final) ≡ acts views → views ≤ length (drop (o .taken) input) →
         room < length (o .replies) + length (m .says (o .final) (take views (drop (o .taken) input)))
 
   -- a list of calls, where `rest` is the part of the stream not yet taken

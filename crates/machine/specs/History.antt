@@ -15,11 +15,11 @@ pub record Event (A S : Type 0) : Type 0 where
 -- from `start` on a stream, the events (the last one first) lead to an outcome
 pub data Path {A S : Type 0} (m : Machine A S) (start : S) (stream : List A) : List (Event A S) → Outcome S → Type 0 where
   here : Path m start stream [] (halt start)
-  more : {events : List (Event A S)} {o : Outcome S} {views takes : ℕ} {view : List A} →
-      Path m start stream events o → m .need (o .final) ≡ acts views takes →
+  more : {events : List (Event A S)} {o : Outcome S} {views : ℕ} {view : List A} →
+      Path m start stream events o → m .need (o .final) ≡ acts views →
       view ≡ take views (drop (o .taken) stream) → length view ≡ views →
       Path m start stream (record { state = o .final; view = view } ∷ events)
-      (join o (acted (m .says (o .final) view) takes (m .after (o .final) view)))
+      (join o (acted (m .says (o .final) view) (m .takes (o .final) view) (m .after (o .final) view)))
 
 -- some events lead there
 pub record Came {A S : Type 0} (m : Machine A S) (start : S) (stream : List A) (o : Outcome S) : Type 0 where

@@ -17,20 +17,20 @@ abbrev pub Any : {A : Type 0} → A → Type 0
 Any a = Unit {0}
 
 -- an action goes on: it takes a symbol, or sends with nothing in view, or no action follows
-pub data Moves {A S : Type 0} (m : Machine A S) (s : S) (view : List A) (views takes : ℕ) : Type 0 where
-  takes-one : 0 < takes → Moves m s view views takes
-  sends-one : views ≡ 0 → 0 < length (m .says s view) → Moves m s view views takes
-  stops : m .need (m .after s view) ≡ runs → Moves m s view views takes
+pub data Moves {A S : Type 0} (m : Machine A S) (s : S) (view : List A) : Type 0 where
+  takes-one : 0 < m .takes s view → Moves m s view
+  sends-one : view ≡ [] → 0 < length (m .says s view) → Moves m s view
+  stops : m .need (m .after s view) ≡ runs → Moves m s view
 
 module _ {A S : Type 0} (m : Machine A S) (Good : A → Type 0) where
   -- P, of the events so far and the state, is kept by every action on good symbols
   abbrev pub Kept : (P : List (Event A S) → S → Type 0) → Type 0
   Kept P =
-      (events : List (Event A S)) (s : S) (view : List A) (views takes : ℕ) → m .need s ≡ acts views takes → length view ≡ views →
+      (events : List (Event A S)) (s : S) (view : List A) (views : ℕ) → m .need s ≡ acts views → length view ≡ views →
       Every Good view → P events s → P (record { state = s; view = view } ∷ events) (m .after s view)
 
   pub record Lawful (Sound : S → Type 0) : Type 0 where
     pub stays-sound : Kept (λ _ s. Sound s)
-    pub takes-in-view : (s : S) (views takes : ℕ) → m .need s ≡ acts views takes → takes ≤ views
-    pub moves : (s : S) (view : List A) (views takes : ℕ) → m .need s ≡ acts views takes → length view ≡ views → Moves m s view views takes
-    pub due-falls : (s : S) (takes : ℕ) → Sound s → m .need s ≡ acts 0 takes → m .due s ≡ suc (m .due (m .after s []))
+    pub takes-in-view : (s : S) (view : List A) → m .takes s view ≤ length view
+    pub moves : (s : S) (view : List A) (views : ℕ) → m .need s ≡ acts views → length view ≡ views → Moves m s view
+    pub due-falls : (s : S) → Sound s → m .need s ≡ acts 0 → m .due s ≡ suc (m .due (m .after s []))

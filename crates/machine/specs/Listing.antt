@@ -9,7 +9,7 @@ use Rattle.machine.specs.Uncut.{uncut}
 use Rattle.machine.specs.Session.{Session, Answer, answerOf}
 use Rattle.machine.specs.declared.Record.{Record}
 
--- a call of the list: how many of the bytes not yet taken it is shown, and the reply slice that it is lent
+-- a call of the list: how many of the symbols not yet taken it is shown, and the reply slice that it is lent
 pub record Lent : Type 0 where
   pub shown : ℕ
   pub reply : List ℕ
@@ -36,9 +36,9 @@ totals session mem (a ∷ later) =
       memories = g .memories;
     }
 
-module _ {M S : Type 0} (σ : Session M S) where
+module _ {A M S : Type 0} (σ : Session A M S) where
   -- what the calls of a list answer, where `rest` is the part of the stream not yet taken
-  unfoldable pub answers : Record → M → (rest : List ℕ) → List Lent → List (Answer M)
+  unfoldable pub answers : Record → M → (rest : List A) → List Lent → List (Answer M)
   answers session mem rest [] = []
   answers session mem rest (c ∷ later) =
       let a = answerOf σ session mem (take (c .shown) rest) (c .reply) in
@@ -57,13 +57,13 @@ module _ {M S : Type 0} (σ : Session M S) where
 
   -- what the definition gives for the uncut stream, from a state on (01: its replies, its memories, how many bytes it took and sent,
   -- and a record)
-  abbrev pub definitionOf : S → (stream : List ℕ) → Given M
+  abbrev pub definitionOf : S → (stream : List A) → Given M
   definitionOf start stream = given (uncut (σ .machine) start stream)
 
   -- what a program's calls gave back, each as the definition says, with the record and the memories that the one before it left
-  pub data Made : Record → M → (rest : List ℕ) → List Lent → List (Answer M) → Type 0 where
-    none : {session : Record} {mem : M} {rest : List ℕ} → Made session mem rest [] []
-    next : {session : Record} {mem : M} {rest : List ℕ} {c : Lent} {later : List Lent} {a : Answer M} {others : List (Answer M)} →
+  pub data Made : Record → M → (rest : List A) → List Lent → List (Answer M) → Type 0 where
+    none : {session : Record} {mem : M} {rest : List A} → Made session mem rest [] []
+    next : {session : Record} {mem : M} {rest : List A} {c : Lent} {later : List Lent} {a : Answer M} {others : List (Answer M)} →
         a ≡ answerOf σ session mem (take (c .shown) rest) (c .reply) →
         Made (a .report .session) (a .memories) (drop (a .report .taken) rest) later others →
         Made session mem rest (c ∷ later) (a ∷ others)

@@ -3,31 +3,33 @@
 use Prim.Native.Nat.{ℕ}
 use mathlib.Core.Bool.{Bool, true, false}
 use mathlib.Core.List.{List, [], _∷_}
+use lib.ListN.{length}
 
--- what the next action asks: so many symbols in view, of which it takes so many; or that there is none, since code runs
+-- what the next action asks: so many symbols in view; or that there is none, since code runs
 pub data Need : Type 0 where
-  acts : (views takes : ℕ) → Need
+  acts : (views : ℕ) → Need
   runs : Need
 
 -- code runs
 abbrev pub isRunning : Need → Bool
-isRunning (acts views takes) = false
+isRunning (acts views) = false
 isRunning runs = true
 
 pub record Machine (A S : Type 0) : Type 0 where
   pub need : S → Need
-  -- the state after an action and the bytes that it sends, by the symbols in view
+  -- the state after an action, the bytes that it sends and how many of the symbols it takes, by the symbols in view
   pub after : S → List A → S
   pub says : S → List A → List ℕ
+  pub takes : S → List A → ℕ
   -- how many actions follow one another with nothing in view
   pub due : S → ℕ
 
 -- a line's actions: take one symbol and send nothing, or send one byte with nothing in view
 abbrev pub take : Need
-take = acts 1 1
+take = acts 1
 
 abbrev pub send : Need
-send = acts 0 0
+send = acts 0
 
 module _ {A S : Type 0} where
   abbrev pub lineAfter : (took : S → A → S) (sent : S → S) → S → List A → S
@@ -40,4 +42,4 @@ module _ {A S : Type 0} where
 
   -- a machine whose needs are take, send and runs: what a taken symbol does, the byte to send, the state once it is sent
   abbrev pub line : (need : S → Need) (took : S → A → S) (byte : S → ℕ) (sent : S → S) (due : S → ℕ) → Machine A S
-  line need took byte sent due = record { need = need; after = lineAfter took sent; says = lineSays byte; due = due }
+  line need took byte sent due = record { need = need; after = lineAfter took sent; says = lineSays byte; takes = λ s view. length view; due = due }

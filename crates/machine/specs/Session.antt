@@ -17,9 +17,9 @@ pub data Read (S : Type 0) : Type 0 where
   sound : S → Read S
   unsound : Read S
 
--- a session over memories M and states S
-pub record Session (M S : Type 0) : Type 0 where
-  pub machine : Machine ℕ S
+-- a session over input symbols A (bytes, as a rule), memories M and states S
+pub record Session (A M S : Type 0) : Type 0 where
+  pub machine : Machine A S
   -- the number that the lengths of the memories are refused with, 0 where they are not
   pub refusal : M → ℕ
   -- the state that a record stands for with these memories; a state's record and its memories
@@ -44,9 +44,9 @@ refusedReport number session = record { number = number; standing = 0; taken = 0
 abbrev pub refused : {M : Type 0} → (number : ℕ) → Record → (reply : List ℕ) → M → Answer M
 refused number session reply mem = record { report = refusedReport number session; reply = reply; memories = mem }
 
-module _ {M S : Type 0} (σ : Session M S) where
+module _ {A M S : Type 0} (σ : Session A M S) where
   -- an accepted call at s
-  unfoldable pub accepted : S → (input reply : List ℕ) → Answer M
+  unfoldable pub accepted : S → (input : List A) (reply : List ℕ) → Answer M
   accepted s input reply =
       let o = call (σ .machine) s input (length reply) in
       record {
@@ -61,12 +61,12 @@ module _ {M S : Type 0} (σ : Session M S) where
         memories = σ .memories (o .final);
       }
 
-  abbrev pub readAnswer : Read S → Record → M → (input reply : List ℕ) → Answer M
+  abbrev pub readAnswer : Read S → Record → M → (input : List A) (reply : List ℕ) → Answer M
   readAnswer (sound s) session mem input reply = accepted s input reply
   readAnswer unsound session mem input reply = refused badRecord session reply mem
 
   -- a call: lengths first, then the record
-  unfoldable pub answerOf : Record → M → (input reply : List ℕ) → Answer M
+  unfoldable pub answerOf : Record → M → (input : List A) (reply : List ℕ) → Answer M
   answerOf session mem input reply =
       cond (eqb (σ .refusal mem) 0)
       (readAnswer (σ .read session mem) session mem input reply)

@@ -5,7 +5,7 @@ use Prim.Native.Nat.{ℕ, _≤_, _<_}
 use mathlib.Core.Path.{_≡_}
 use mathlib.Core.List.{List, []}
 use lib.ListN.{length}
-use Rattle.machine.specs.Machine.{acts}
+use Rattle.machine.specs.Machine.{acts, Machine}
 use Rattle.machine.specs.History.{Event}
 use Rattle.machine.specs.Lawful.{Kept, Lawful}
 use Rattle.machine.specs.Session.{Session, sound}
@@ -13,12 +13,15 @@ use Rattle.machine.specs.Session.{Session, sound}
 abbrev pub Byte : ℕ → Type 0
 Byte b = b < 256
 
--- Sound: what every state that calls can reach satisfies. Invariant: what the events on the way and the state that they led to satisfy
-pub record Faithful {M S : Type 0} (σ : Session M S) (fresh : M → S) (Sound : S → Type 0) (Invariant : List (Event ℕ S) → S → Type 0) : Type 0 where
-  pub lawful : Lawful (σ .machine) Byte Sound
-  -- bytes are taken one by one, and an action with nothing in view sends
-  pub one-by-one : (s : S) (views takes : ℕ) → σ .machine .need s ≡ acts views takes → views ≤ 1
-  pub speaks : (s : S) (takes : ℕ) → σ .machine .need s ≡ acts 0 takes → 0 < length (σ .machine .says s [])
+-- no action has more than one symbol in view
+abbrev pub OneByOne : {A S : Type 0} → Machine A S → Type 0
+OneByOne {A} {S} m = (s : S) (views : ℕ) → m .need s ≡ acts views → views ≤ 1
+
+-- Good: the symbols of a stream. Sound: what every state that calls can reach satisfies. Invariant: what the events on the way and the state that they led to satisfy
+pub record Faithful {A M S : Type 0} (σ : Session A M S) (Good : A → Type 0) (fresh : M → S) (Sound : S → Type 0) (Invariant : List (Event A S) → S → Type 0) : Type 0 where
+  pub lawful : Lawful (σ .machine) Good Sound
+  -- an action with nothing in view sends
+  pub speaks : (s : S) → σ .machine .need s ≡ acts 0 → 0 < length (σ .machine .says s [])
   -- a fresh session is sound and has the memories as first lent
   pub fresh-sound : (mem : M) → σ .refusal mem ≡ 0 → Sound (fresh mem)
   pub fresh-memories : (mem : M) → σ .memories (fresh mem) ≡ mem
@@ -27,4 +30,4 @@ pub record Faithful {M S : Type 0} (σ : Session M S) (fresh : M → S) (Sound :
   pub reads-back : (s : S) → Sound s → σ .read (σ .write s) (σ .memories s) ≡ sound s
   -- the invariant holds at the start, and every action keeps it
   pub at-first : (mem : M) → σ .refusal mem ≡ 0 → Invariant [] (fresh mem)
-  pub kept : Kept (σ .machine) Byte Invariant
+  pub kept : Kept (σ .machine) Good Invariant

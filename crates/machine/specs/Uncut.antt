@@ -13,8 +13,8 @@ module _ {A S : Type 0} (m : Machine A S) where
   abbrev pub drainAt : (fuel : ℕ) → Need → S → Outcome S
   drainAt zero need s = halt s
   drainAt (suc fuel) runs s = halt s
-  drainAt (suc fuel) (acts (suc views) takes) s = halt s
-  drainAt (suc fuel) (acts zero takes) s =
+  drainAt (suc fuel) (acts (suc views)) s = halt s
+  drainAt (suc fuel) (acts zero) s =
       let next = m .after s [] in
       join (acted (m .says s []) 0 next) (drainAt fuel (m .need next) next)
 
@@ -25,9 +25,10 @@ module _ {A S : Type 0} (m : Machine A S) where
   unfoldable pub feed : (fuel : ℕ) → Need → S → (stream : List A) → Outcome S
   feed zero need s stream = halt s
   feed (suc fuel) runs s stream = halt s
-  feed (suc fuel) (acts zero takes) s stream = halt s
-  feed (suc fuel) (acts (suc views) takes) s stream =
+  feed (suc fuel) (acts zero) s stream = halt s
+  feed (suc fuel) (acts (suc views)) s stream =
       let view = take (suc views) stream in
+      let takes = m .takes s view in
       let d = drain (m .after s view) in
       cond (leb (suc views) (length stream))
       (join (acted (m .says s view) takes (m .after s view)) (join d (feed fuel (m .need (d .final)) (d .final) (drop takes stream))))

@@ -13,7 +13,7 @@ use Rattle.machine.specs.Machine as machine
 use Rattle.machine.specs.Machine.{isRunning}
 use Rattle.machine.specs.History.{Event}
 use Rattle.machine.specs.Acknowledged.{RunsExactly}
-use Rattle.machine.specs.SessionLaws.{Byte, Faithful}
+use Rattle.machine.specs.SessionLaws.{Byte, OneByOne, Faithful}
 use Rattle.machine.proofs.Acknowledgements.{runs-on}
 use Rattle.machine.proofs.Lines.{line-one, line-speaks, line-kept}
 use Rattle.rom_flow.specs.declared.kind.Kind.{Kind}
@@ -91,19 +91,21 @@ runs-taken : (events : List (Event ℕ State)) (s : State) (b : ℕ) → needOf 
     RunsExactly awaits receiver (record { state = s; view = b ∷ [] } ∷ events) (took s b)
 unfolding took
 runs-taken events s b e w h =
-    runs-on awaits receiver events s (took s b) (b ∷ []) 1 1 e h (took-runs (s .kind) (length (s .ram)) (s .step) (s .reason) b e)
+    runs-on awaits receiver events s (took s b) (b ∷ []) 1 e h (took-runs (s .kind) (length (s .ram)) (s .step) (s .reason) b e)
 
 runs-sent : (events : List (Event ℕ State)) (s : State) → needOf (askOf (s .step)) ≡ machine.send → RunsExactly awaits receiver events s →
     RunsExactly awaits receiver (record { state = s; view = [] } ∷ events) (sent s)
-runs-sent events s e h = runs-on awaits receiver events s (sent s) [] 0 0 e h (sent-runs (s .step) e ∙ sym (and-false (awaitsAck (s .step))))
+runs-sent events s e h = runs-on awaits receiver events s (sent s) [] 0 e h (sent-runs (s .step) e ∙ sym (and-false (awaitsAck (s .step))))
+
+pub one-by-one : OneByOne receiver
+one-by-one = line-one need took byte sent due is-line
 
 -- the receiver's lists of calls follow its definition
-pub faithful : (kind : Kind) → Faithful rom (fresh kind) Sound (RunsExactly awaits receiver)
+pub faithful : (kind : Kind) → Faithful rom Byte (fresh kind) Sound (RunsExactly awaits receiver)
 unfolding written
 faithful kind =
     record {
       lawful = lawful Byte;
-      one-by-one = line-one need took byte sent due is-line;
       speaks = line-speaks need took byte sent due is-line;
       fresh-sound = λ ram e. record { fits = ram-fits (isRamLength (length ram)) e; step-sound = tt };
       fresh-memories = λ ram. refl;

@@ -22,7 +22,7 @@ abbrev pub readOf : Decoded → (reason : ℕ) (ram : List ℕ) → Read State
 readOf (Sound kind step) reason ram = sound (state kind step reason ram)
 readOf Unsound reason ram = unsound
 
-abbrev pub rom : Session (List ℕ) State
+abbrev pub rom : Session ℕ (List ℕ) State
 rom =
     record {
       machine = receiver;

@@ -3,8 +3,8 @@
 use Prim.Native.Nat.{ℕ}
 use mathlib.Core.List.{List}
 use Rattle.machine.specs.History.{Event}
-use Rattle.machine.specs.SessionLaws.{Faithful}
-use Rattle.machine.proofs.Sessions.{session-claim, made-claim}
+use Rattle.machine.specs.SessionLaws.{Byte, OneByOne, Faithful}
+use Rattle.machine.proofs.Sessions.{takes-all, session-claim, made-claim}
 use Rattle.rom_flow.specs.declared.kind.Kind.the-variants.{P, E}
 use Rattle.rom.proofs.Faith as rom
 use Rattle.uartboot.proofs.Faith as device-faith
@@ -15,13 +15,14 @@ use Rattle.sessions.specs.Demand3.{Told, Demand3}
 record Follows (kind : Kind) : Type 1 where
   Sound : StateOf kind → Type 0
   Invariant : List (Event ℕ (StateOf kind)) → StateOf kind → Type 0
-  law : Faithful (sessionOf kind) (freshOf kind) Sound Invariant
+  one : OneByOne (sessionOf kind .machine)
+  law : Faithful (sessionOf kind) Byte (freshOf kind) Sound Invariant
   tells : (events : List (Event ℕ (StateOf kind))) (s : StateOf kind) → Invariant events s → Told kind events s
 
 follows : (kind : Kind) → Follows kind
-follows romP = record { Sound = _; Invariant = _; law = rom.faithful P; tells = λ events s h. (h, tt) }
-follows romE = record { Sound = _; Invariant = _; law = rom.faithful E; tells = λ events s h. (h, tt) }
-follows uartboot = record { Sound = _; Invariant = _; law = device-faith.faithful; tells = device-faith.tells }
+follows romP = record { Sound = _; Invariant = _; one = rom.one-by-one; law = rom.faithful P; tells = λ events s h. (h, tt) }
+follows romE = record { Sound = _; Invariant = _; one = rom.one-by-one; law = rom.faithful E; tells = λ events s h. (h, tt) }
+follows uartboot = record { Sound = _; Invariant = _; one = device-faith.one-by-one; law = device-faith.faithful; tells = device-faith.tells }
 
 pub demand-3 : Demand3
 demand-3 kind =
@@ -29,4 +30,5 @@ demand-3 kind =
     record {
       defined = session-claim (sessionOf kind) (f .law) (f .tells);
       made = made-claim (sessionOf kind) (f .law) (f .tells);
+      takes-all = takes-all (sessionOf kind) (f .law .lawful) (f .one);
     }

@@ -4,7 +4,8 @@
 --   no-refusal        else none is: every record on the way is sound
 --   replies-begin, taken-within, sent-within   always: joined replies are a beginning of the definition's, counts within
 --   all-taken, code-runs   all taken and waiting for a byte, or code running: replies, counts, memories and record are the definition's
---   enough-room       a call with room for the replies takes all it is shown and then waits for a byte, unless code runs
+--   too-few-left      the same where what is left is less than the next action needs
+--   enough-room, takes-all   a call with room for the replies waits for a byte, unless code runs; it then has taken all it was shown
 --   reached, reached-is, reads-as, history   the state that the list has come to, by actions of the flow; its record is read as it
 --   told              every list of actions that leads there says `Told` of it
 -- Assumes nothing.
@@ -12,7 +13,8 @@ use Prim.Native.Nat.{ℕ}
 use mathlib.Core.List.{List}
 use Rattle.machine.specs.History.{Event}
 use Rattle.machine.specs.Acknowledged.{RunsExactly}
-use Rattle.machine.specs.SessionClaim.{Claim, MadeClaim}
+use Rattle.machine.specs.SessionLaws.{Byte}
+use Rattle.machine.specs.SessionClaim.{TakesAll, Claim, MadeClaim}
 use Rattle.sessions.specs.Kind.{Kind, StateOf, sessionOf, freshOf, awaitsOf, NakUnchanged}
 
 -- code runs exactly when the host has acknowledged a checksum, and a command NAKed before execution has changed no RAM or flash
@@ -21,9 +23,11 @@ Told kind events s = RunsExactly (awaitsOf kind) (sessionOf kind .machine) event
 
 pub record ForKind (kind : Kind) : Type 0 where
   -- of lists of the definition's own calls
-  pub defined : Claim (sessionOf kind) (Told kind) (freshOf kind)
+  pub defined : Claim (sessionOf kind) Byte (Told kind) (freshOf kind)
   -- of what a program's calls gave back, each as its routine promises
-  pub made : MadeClaim (sessionOf kind) (Told kind) (freshOf kind)
+  pub made : MadeClaim (sessionOf kind) Byte (Told kind) (freshOf kind)
+  -- a call that waits for a byte has taken all it was shown
+  pub takes-all : TakesAll (sessionOf kind)
 
 abbrev pub Demand3 : Type 0
 Demand3 = (kind : Kind) → ForKind kind

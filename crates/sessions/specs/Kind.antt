@@ -31,7 +31,7 @@ StateOf romP = receiver.State
 StateOf romE = receiver.State
 StateOf uartboot = device.State
 
-abbrev pub sessionOf : (kind : Kind) → Session (MemoriesOf kind) (StateOf kind)
+abbrev pub sessionOf : (kind : Kind) → Session ℕ (MemoriesOf kind) (StateOf kind)
 sessionOf romP = rom
 sessionOf romE = rom
 sessionOf uartboot = device-session.uartboot

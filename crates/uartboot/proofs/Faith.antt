@@ -11,7 +11,7 @@ use Rattle.machine.specs.Machine.{acts, isRunning}
 use Rattle.machine.specs.Does.{Does, takes, sends, runs, needOf, tookOf, sentOf, byteOf}
 use Rattle.machine.specs.History.{Event}
 use Rattle.machine.specs.Acknowledged.{RunsExactly}
-use Rattle.machine.specs.SessionLaws.{Byte, Faithful}
+use Rattle.machine.specs.SessionLaws.{Byte, OneByOne, Faithful}
 use Rattle.machine.proofs.Acknowledgements.{runs-on}
 use Rattle.machine.proofs.Doing.{Leaves, is-line, does-kept, leaves-weaken}
 use Rattle.machine.proofs.Lines.{line-one, line-speaks}
@@ -40,7 +40,7 @@ abbrev Same : Memories → State → Type 0
 Same m s = (s .mem .ram ≡ m .ram) × (s .mem .flash ≡ m .flash)
 
 -- until its execution a command leaves RAM and flash; NAKed before, it is over
-abbrev Began : Last → State → Type 0
+abbrev pub Began : Last → State → Type 0
 Began history.none s = Unit {0}
 Began (since m false) s = isBefore (s .step) ≡ true → Same m s
 Began (since m true) s = (isBefore (s .step) ≡ false) × Same m s
@@ -48,7 +48,7 @@ Began (since m true) s = (isBefore (s .step) ≡ false) × Same m s
 still-same : (m : Memories) (s t : State) → Same m s → Stores s t → Same m t
 still-same m s t h g = (g .0 ∙ h .0, g .1 ∙ h .1)
 
-never : {A : Type 0} → _≡_ {A = Bool} false true → A
+pub never : {A : Type 0} → _≡_ {A = Bool} false true → A
 never e = absurd (let z : _≡_ {A = ℕ} 0 1 = cc in omega arith)
 
 early-before : (step : Step) → isEarly step ≡ true → isBefore step ≡ true
@@ -100,13 +100,13 @@ pub record Invariant (events : List (Event ℕ State)) (s : State) : Type 0 wher
   pub exactly : RunsExactly awaits device events s
   pub began : Began (lastOf events) s
 
-invariant-next : (events : List (Event ℕ State)) (s t : State) (view : List ℕ) (views took : ℕ) → device .after s view ≡ t → device .need s ≡ acts views took →
+invariant-next : (events : List (Event ℕ State)) (s t : State) (view : List ℕ) (views : ℕ) → device .after s view ≡ t → device .need s ≡ acts views →
     Invariant events s → Left s view t → Sound t → Invariant (record { state = s; view = view } ∷ events) t
-invariant-next events s t view views took e n h l k =
+invariant-next events s t view views e n h l k =
     record {
       sound = k;
       checks = l .checks;
-      exactly = runs-on awaits device events s t view views took n (h .exactly) (ap isRunning (asked-need (t .reason) (t .mem) (t .step) _ refl) ∙ l .starts);
+      exactly = runs-on awaits device events s t view views n (h .exactly) (ap isRunning (asked-need (t .reason) (t .mem) (t .step) _ refl) ∙ l .starts);
       began =
           subst (λ (x : State). Began (cond (begins (record { state = s; view = view })) (since (s .mem) false) (noted (isEarly (s .step) && isRefusal (x .step)) (lastOf events))) t) (sym e)
           (next-began s t (begins (record { state = s; view = view })) (l .goes-on) (lastOf events) (h .began));
@@ -120,18 +120,20 @@ invariant-kept events s h = go (does s) refl (does-left (s .reason) (s .mem) (s 
 
     go : (d : Does ℕ State) → does s ≡ d → Lefts s d → Leaves Byte (λ _ t. Sound t) [] s d → Leaves Byte Invariant events s d
     go (takes next) e l k =
-        λ b g. invariant-next events s (next b) (b ∷ []) 1 1 (ap (λ (d : Does ℕ State). tookOf d s b) e) (ap (λ (d : Does ℕ State). needOf d) e) h (l b) (k b g)
+        λ b g. invariant-next events s (next b) (b ∷ []) 1 (ap (λ (d : Does ℕ State). tookOf d s b) e) (ap (λ (d : Does ℕ State). needOf d) e) h (l b) (k b g)
     go (sends byte next) e l k =
-        invariant-next events s next [] 0 0 (ap (λ (d : Does ℕ State). sentOf d s) e) (ap (λ (d : Does ℕ State). needOf d) e) h l k
+        invariant-next events s next [] 0 (ap (λ (d : Does ℕ State). sentOf d s) e) (ap (λ (d : Does ℕ State). needOf d) e) h l k
     go runs e l k = tt
 
+pub one-by-one : OneByOne device
+one-by-one = line-one (λ s. needOf (does s)) (λ s a. tookOf (does s) s a) (λ s. byteOf (does s)) (λ s. sentOf (does s) s) due (is-line does due)
+
 -- the session's lists of calls follow its definition
-pub faithful : Faithful uartboot fresh Sound Invariant
+pub faithful : Faithful uartboot Byte fresh Sound Invariant
 unfolding written
 faithful =
     record {
       lawful = lawful Byte;
-      one-by-one = line-one (λ s. needOf (does s)) (λ s a. tookOf (does s) s a) (λ s. byteOf (does s)) (λ s. sentOf (does s) s) due (is-line does due);
       speaks = line-speaks (λ s. needOf (does s)) (λ s a. tookOf (does s) s a) (λ s. byteOf (does s)) (λ s. sentOf (does s) s) due (is-line does due);
       fresh-sound = λ m e. record { fitting = fitting _ _ _ e; step-sound = omega arith };
       fresh-memories = λ m. refl;

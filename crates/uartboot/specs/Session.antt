@@ -27,7 +27,7 @@ abbrev pub readOf : Found → (reason : ℕ) → Memories → Read State
 readOf (At step) reason m = sound (state step reason m)
 readOf Unsound reason m = unsound
 
-abbrev pub uartboot : Session Memories State
+abbrev pub uartboot : Session ℕ Memories State
 uartboot =
     record {
       machine = device;
