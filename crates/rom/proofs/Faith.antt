@@ -66,11 +66,11 @@ took-runs kind size (TakeCode n p) reason b e = code-never n (p + 1)
 took-runs kind size (SendXor n) reason b e = refl
 took-runs kind size (TakeAck n) reason b e = go (eqb b ack)
   where
-    go : (t : Bool) → runs (cond t (flow.to Running reason) (flow.to SendStx flow.notAcked) .step) ≡ t
+    go : (t : Bool) → runs (cond t (flow.to (Running flow.start) reason) (flow.to SendStx flow.notAcked) .step) ≡ t
     go true = refl
     go false = refl
 took-runs kind size SendNak reason b e = refl
-took-runs kind size Running reason b e = cc
+took-runs kind size (Running address) reason b e = cc
 
 -- a sent byte starts nothing
 sent-runs : (s : Step) → needOf (askOf s) ≡ machine.send → runs (flow.sent s) ≡ false
@@ -85,7 +85,7 @@ sent-runs (TakeCode n p) e = refl
 sent-runs (SendXor n) e = refl
 sent-runs (TakeAck n) e = refl
 sent-runs SendNak e = refl
-sent-runs Running e = cc
+sent-runs (Running address) e = cc
 
 runs-taken : (events : List (Event ℕ State)) (s : State) (b : ℕ) → needOf (askOf (s .step)) ≡ machine.take → Byte b → RunsExactly awaits receiver events s →
     RunsExactly awaits receiver (record { state = s; view = b ∷ [] } ∷ events) (took s b)

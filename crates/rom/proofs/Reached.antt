@@ -19,19 +19,15 @@ use Rattle.rom.specs.declared.record.Decoded.{Decoded}
 use Rattle.rom.specs.declared.record.Decoded.the-variants as decoded
 use Rattle.rom_flow.specs.Ask.{askOf}
 use Rattle.rom_flow.specs.Receiver.{State, need, took, byte, sent, due, receiver, state}
-use Rattle.rom.specs.Record.{written, stepIn, decodedOf}
+use Rattle.rom.specs.Record.{written, phaseIn, stepIn, decodedOf}
 use Rattle.rom.specs.Session.{rom}
 use Rattle.rom_flow.specs.Sound.{Sound}
-use Rattle.rom.specs.Reach.{StartsFresh, FreshAccepted, StaysAccepted}
+use Rattle.rom.specs.Reach.{FreshAccepted, StaysAccepted}
 use Rattle.rom_flow.proofs.Laws.{is-line, lawful, stored-length, took-sound, sent-sound}
 use Rattle.rom.proofs.Records.{decoded-sound, reads-back}
 
-pub starts-fresh : StartsFresh
-unfolding written
-starts-fresh kind ram = refl
-
 pub fresh-accepted : FreshAccepted
-unfolding answerOf accepted decodedOf stepIn
+unfolding answerOf accepted decodedOf stepIn phaseIn
 fresh-accepted P ram input reply e = simp e refl
 fresh-accepted E ram input reply e = simp e refl
 

@@ -1,6 +1,6 @@
 -- A record that is read stands for a sound step, and a sound step's record is read as that step.
 -- Assumes nothing.
-use Prim.Native.Nat.{ℕ}
+use Prim.Native.Nat.{ℕ, _<_}
 use native.Mathlib.Omega.{arith}
 use mathlib.Core.Path.{_≡_, refl, ap, subst}
 use mathlib.Core.Bool.{cond}
@@ -16,9 +16,10 @@ use Rattle.rom.specs.declared.record.Found.the-variants.{At}
 use Rattle.rom.specs.declared.record.Found.the-variants as found
 use Rattle.rom.specs.declared.record.Decoded.{Decoded}
 use Rattle.rom.specs.declared.record.Decoded.the-variants as decoded
+use Rattle.wire.specs.Unit.{isInRam}
 use Rattle.wire.proofs.Tests.{in-cond}
 use Rattle.machine.specs.declared.Record.{Record}
-use Rattle.rom.specs.Record.{fields, fieldsOf, written, sized, coded, extended, stepIn, withKind, decodedOf}
+use Rattle.rom.specs.Record.{fields, fieldsOf, written, sized, extended, placesOf, phaseIn, stepIn, withKind, decodedOf}
 use Rattle.rom_flow.specs.Sound.{SoundStep, Sized, Extends}
 
 abbrev InFound : Kind → ℕ → Found → Type 0
@@ -34,17 +35,13 @@ sized-in kind size n s f =
     in-cond (InFound kind size) (eqb n 0) _ _ (λ e. tt)
     (λ e. in-cond (InFound kind size) (leb n size) _ _ (λ l. f (omega (arith, eqb-false n 0 e), leb-true _ _ l)) (λ l. tt))
 
-coded-in : (kind : Kind) (size n p : ℕ) → InFound kind size (coded size n p)
-coded-in kind size n p =
-    in-cond (InFound kind size) (ltb p n) _ _ (λ e. sized-in kind size n (TakeCode n p) (λ h. (ltb-true _ _ e, h .1))) (λ e. tt)
-
 extended-in : (kind : Kind) (size : ℕ) (s : Step) → (Extends kind → SoundStep kind size s) → InFound kind size (extended kind s)
 extended-in P size s f = tt
 extended-in E size s f = f tt
 
-step-in : (kind : Kind) (size : ℕ) (n : Numbers) → InFound kind size (stepIn kind size n)
-unfolding stepIn
-step-in kind size n =
+phase-in : (kind : Kind) (size : ℕ) (n : Numbers) → n .place < placesOf (n .phase) (n .length) → InFound kind size (phaseIn kind size n)
+unfolding phaseIn
+phase-in kind size n p =
     let Q = InFound kind size in
     let k = n .phase in
     in-cond Q (eqb k 0) _ _ (λ e. tt) (λ e0.
@@ -54,11 +51,16 @@ step-in kind size n =
     in-cond Q (eqb k 4) _ _ (λ e. extended-in kind size TakeExtendedLow (λ h. h)) (λ e4.
     in-cond Q (eqb k 5) _ _ (λ e. extended-in kind size (TakeExtendedHigh (n .held)) (λ h. h)) (λ e5.
     in-cond Q (eqb k 6) _ _ (λ e. sized-in kind size (n .length) (SendAck (n .length)) (λ h. h)) (λ e6.
-    in-cond Q (eqb k 7) _ _ (λ e. coded-in kind size (n .length) (n .place)) (λ e7.
+    in-cond Q (eqb k 7) _ _ (λ e. sized-in kind size (n .length) (TakeCode (n .length) (n .place)) (λ h. (rw e at p, h .1))) (λ e7.
     in-cond Q (eqb k 8) _ _ (λ e. sized-in kind size (n .length) (SendXor (n .length)) (λ h. h)) (λ e8.
     in-cond Q (eqb k 9) _ _ (λ e. sized-in kind size (n .length) (TakeAck (n .length)) (λ h. h)) (λ e9.
     in-cond Q (eqb k 10) _ _ (λ e. tt) (λ e10.
-    in-cond Q (eqb k 11) _ _ (λ e. tt) (λ e11. tt))))))))))))
+    in-cond Q (eqb k 11) _ _ (λ e. in-cond Q (isInRam (record { 0 = n .held }) size) _ _ (λ inside. inside) (λ outside. tt)) (λ e11. tt))))))))))))
+
+step-in : (kind : Kind) (size : ℕ) (n : Numbers) → InFound kind size (stepIn kind size n)
+unfolding stepIn
+step-in kind size n =
+    in-cond (InFound kind size) (ltb (n .place) (placesOf (n .phase) (n .length))) _ _ (λ e. phase-in kind size n (ltb-true _ _ e)) (λ e. tt)
 
 kind-in : (kind : Kind) (size : ℕ) (f : Found) → InFound kind size f → InDecoded size (withKind kind f)
 kind-in kind size (At step) h = h
@@ -86,7 +88,7 @@ extended-back E s h = refl
 
 -- every sound step is read back from its numbers
 step-back : (kind : Kind) (size : ℕ) (s : Step) → SoundStep kind size s → stepIn kind size (fieldsOf s) ≡ At s
-unfolding stepIn
+unfolding stepIn phaseIn
 step-back kind size SendStx h = refl
 step-back kind size TakeSoh h = refl
 step-back kind size TakeLow h = refl
@@ -99,7 +101,7 @@ step-back kind size (TakeCode n p) h =
 step-back kind size (SendXor n) h = sized-back size n (SendXor n) h
 step-back kind size (TakeAck n) h = sized-back size n (TakeAck n) h
 step-back kind size SendNak h = refl
-step-back kind size Running h = refl
+step-back kind size (Running address) h = rw h refl
 
 -- and from its record
 pub reads-back : (kind : Kind) (size : ℕ) (s : Step) (reason : ℕ) → SoundStep kind size s → decodedOf size (written kind s reason) ≡ decoded.Sound kind s

@@ -18,7 +18,7 @@ awaitsAck (SendAck length) = false
 awaitsAck (TakeCode length place) = false
 awaitsAck (SendXor length) = false
 awaitsAck SendNak = false
-awaitsAck Running = false
+awaitsAck (Running address) = false
 
 abbrev pub awaits : State → Bool
 awaits s = awaitsAck (s .step)

@@ -7,15 +7,10 @@ use lib.ListN.{length}
 use Rattle.machine.specs.Session.{answerOf}
 use Rattle.machine.specs.declared.Record.{Record}
 use Rattle.rom_flow.specs.declared.kind.Kind.{Kind}
-use Rattle.rom_flow.specs.Receiver.{fresh}
 use Rattle.rom.specs.Record.{kindNumber}
 use Rattle.rom.specs.Session.{freshRecord, rom}
 
--- a session starts at the record that is handed out for its kind's number
-abbrev pub StartsFresh : Type 0
-StartsFresh = (kind : Kind) (ram : List ℕ) → rom .write (fresh kind ram) ≡ freshRecord (kindNumber kind)
-
--- where the RAM's length is not refused, that record is accepted
+-- where the RAM's length is not refused, the record that is handed out for a kind's number is accepted
 abbrev pub FreshAccepted : Type 0
 FreshAccepted =
     (kind : Kind) (ram input reply : List ℕ) → rom .refusal ram ≡ 0 → answerOf rom (freshRecord (kindNumber kind)) ram input reply .report .number ≡ 0

@@ -1,9 +1,10 @@
 -- The receiver's record (01, "Memories and the record", and "Numbers given back", number 4: record unsound). Numbers that a phase
--- does not use are ignored when a record comes in, and are 0 in every record that an accepted call hands out.
+-- does not use are ignored when a record comes in, but for the place; they are 0 in every record that an accepted call hands out.
 -- Assumes nothing.
 use Prim.Native.Nat.{ℕ}
 use mathlib.Core.Bool.{cond}
 use lib.Dec.{eqb, leb, ltb}
+use Rattle.wire.specs.Unit.{isInRam}
 use Rattle.machine.specs.declared.Record.{Record}
 use Rattle.rom_flow.specs.declared.kind.Kind.{Kind}
 use Rattle.rom_flow.specs.declared.kind.Kind.the-variants.{P, E}
@@ -23,7 +24,7 @@ kindNumber E = 1
 abbrev pub fields : (phase length place held : ℕ) → Numbers
 fields phase length place held = record { phase = phase; length = length; place = place; held = held }
 
--- a step in numbers; `held` is the low byte of a length
+-- a step in numbers; `held` is the low byte of a length, or the address at which code runs
 abbrev pub fieldsOf : Step → Numbers
 fieldsOf SendStx = fields 0 0 0 0
 fieldsOf TakeSoh = fields 1 0 0 0
@@ -36,7 +37,7 @@ fieldsOf (TakeCode length place) = fields 7 length place 0
 fieldsOf (SendXor length) = fields 8 length 0 0
 fieldsOf (TakeAck length) = fields 9 length 0 0
 fieldsOf SendNak = fields 10 0 0 0
-fieldsOf Running = fields 11 0 0 0
+fieldsOf (Running address) = fields 11 0 0 (address .0)
 
 -- the record of a step
 unfoldable pub written : Kind → Step → (reason : ℕ) → Record
@@ -56,17 +57,21 @@ written kind step reason =
 abbrev pub sized : (size length : ℕ) → Step → Found
 sized size length step = cond (eqb length 0) found.Unsound (cond (leb length size) (At step) found.Unsound)
 
--- the place is that of the next code byte, so it is below the length
-abbrev pub coded : (size length place : ℕ) → Found
-coded size length place = cond (ltb place length) (sized size length (TakeCode length place)) found.Unsound
+-- code runs in RAM
+abbrev pub runningIn : (size address : ℕ) → Found
+runningIn size address = cond (isInRam (record { 0 = address }) size) (At (Running (record { 0 = address }))) found.Unsound
 
 -- kind P has no extended length
 abbrev pub extended : Kind → Step → Found
 extended P step = found.Unsound
 extended E step = At step
 
-unfoldable pub stepIn : Kind → (size : ℕ) → Numbers → Found
-stepIn kind size n =
+-- how many places a phase has: one for each code byte where code is taken, and else only 0
+abbrev pub placesOf : (phase total : ℕ) → ℕ
+placesOf phase total = cond (eqb phase 7) total 1
+
+unfoldable pub phaseIn : Kind → (size : ℕ) → Numbers → Found
+phaseIn kind size n =
     cond (eqb (n .phase) 0) (At SendStx)
     (cond (eqb (n .phase) 1) (At TakeSoh)
     (cond (eqb (n .phase) 2) (At TakeLow)
@@ -74,12 +79,16 @@ stepIn kind size n =
     (cond (eqb (n .phase) 4) (extended kind TakeExtendedLow)
     (cond (eqb (n .phase) 5) (extended kind (TakeExtendedHigh (n .held)))
     (cond (eqb (n .phase) 6) (sized size (n .length) (SendAck (n .length)))
-    (cond (eqb (n .phase) 7) (coded size (n .length) (n .place))
+    (cond (eqb (n .phase) 7) (sized size (n .length) (TakeCode (n .length) (n .place)))
     (cond (eqb (n .phase) 8) (sized size (n .length) (SendXor (n .length)))
     (cond (eqb (n .phase) 9) (sized size (n .length) (TakeAck (n .length)))
     (cond (eqb (n .phase) 10) (At SendNak)
-    (cond (eqb (n .phase) 11) (At Running)
+    (cond (eqb (n .phase) 11) (runningIn size (n .held))
     found.Unsound)))))))))))
+
+-- a place beyond what its phase takes or sends is unsound
+unfoldable pub stepIn : Kind → (size : ℕ) → Numbers → Found
+stepIn kind size n = cond (ltb (n .place) (placesOf (n .phase) (n .length))) (phaseIn kind size n) found.Unsound
 
 abbrev pub withKind : Kind → Found → Decoded
 withKind kind (At step) = Sound kind step

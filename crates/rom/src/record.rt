@@ -1,11 +1,12 @@
 // The receiver's record: a step in numbers, and back.
 ghost use mathlib.Core.Path.{_≡_};
-ghost use Rattle.rom.specs.Record.{kindNumber, fieldsOf, written, sized, extended, coded, stepIn, withKind, decodedOf};
+ghost use Rattle.rom.specs.Record.{kindNumber, fieldsOf, written, sized, extended, runningIn, placesOf, phaseIn, stepIn, withKind, decodedOf};
 use machine::Record;
 use rom_flow::kind::Kind;
 use rom_flow::step::Step;
+use wire::unit::RamAddress;
 
-// A step in numbers. `held` is the low byte of a length.
+// A step in numbers. `held` is the low byte of a length, or the address at which code runs.
 pub struct Numbers {
     pub phase: u32,
     pub length: u32,
@@ -51,7 +52,7 @@ fn fields_of(step: Step) -> Numbers
         Step::SendXor(length) => fields(8, length, 0, 0),
         Step::TakeAck(length) => fields(9, length, 0, 0),
         Step::SendNak => fields(10, 0, 0, 0),
-        Step::Running => fields(11, 0, 0, 0),
+        Step::Running(address) => fields(11, 0, 0, address.0),
     }
 }
 
@@ -95,12 +96,12 @@ fn sized(size: u32, length: u32, step: Step) -> Found
     }
 }
 
-// A step that takes code: its place is below the length.
-fn coded(size: u32, length: u32, place: u32) -> Found
-    ensures { λ r. ⌜ r ≡ coded size length place ⌝ }
+// Code runs at an address in RAM.
+fn running_in(size: u32, address: u32) -> Found
+    ensures { λ r. ⌜ r ≡ runningIn size address ⌝ }
 {
-    if place < length {
-        sized(size, length, Step::TakeCode(length, place))
+    if RamAddress(address).is_in(size as usize) {
+        Found::At(Step::Running(RamAddress(address)))
     } else {
         Found::Unsound
     }
@@ -116,8 +117,16 @@ fn extended(kind: Kind, step: Step) -> Found
     }
 }
 
-fn step_in(kind: Kind, size: u32, numbers: Numbers) -> Found
-    ensures { λ r. ⌜ r ≡ stepIn kind size numbers ⌝ }
+// How many places a phase has.
+fn places_of(phase: u32, total: u32) -> u32
+    ensures { λ r. ⌜ r ≡ placesOf phase total ⌝ }
+{
+    if phase == 7 { total } else { 1 }
+}
+
+// The step of a phase, whatever the place.
+fn phase_in(kind: Kind, size: u32, numbers: Numbers) -> Found
+    ensures { λ r. ⌜ r ≡ phaseIn kind size numbers ⌝ }
 {
     let phase = numbers.phase;
     let length = numbers.length;
@@ -129,12 +138,22 @@ fn step_in(kind: Kind, size: u32, numbers: Numbers) -> Found
         4 => extended(kind, Step::TakeExtendedLow),
         5 => extended(kind, Step::TakeExtendedHigh(numbers.held)),
         6 => sized(size, length, Step::SendAck(length)),
-        7 => coded(size, length, numbers.place),
+        7 => sized(size, length, Step::TakeCode(length, numbers.place)),
         8 => sized(size, length, Step::SendXor(length)),
         9 => sized(size, length, Step::TakeAck(length)),
         10 => Found::At(Step::SendNak),
-        11 => Found::At(Step::Running),
+        11 => running_in(size, numbers.held),
         _ => Found::Unsound,
+    }
+}
+
+fn step_in(kind: Kind, size: u32, numbers: Numbers) -> Found
+    ensures { λ r. ⌜ r ≡ stepIn kind size numbers ⌝ }
+{
+    if numbers.place < places_of(numbers.phase, numbers.length) {
+        phase_in(kind, size, numbers)
+    } else {
+        Found::Unsound
     }
 }
 

@@ -6,6 +6,8 @@ use mathlib.Core.Path.{_≡_, refl, subst}
 use mathlib.Core.Bool.{Bool, true, false, cond}
 use lib.Dec.{eqb, leb, ltb}
 use borrow.Author.Tests.{leb-true, ltb-true, eqb-false}
+use Rattle.wire.specs.Unit.{ramBase}
+use Rattle.wire.proofs.Ranges.{lies-first}
 use Rattle.wire.proofs.Tests.{in-cond}
 use Rattle.machine.specs.Machine as machine
 use Rattle.rom_flow.specs.declared.kind.Kind.{Kind}
@@ -39,7 +41,7 @@ asks-inside kind size (TakeCode length place) h = h
 asks-inside kind size (SendXor length) h = h .1
 asks-inside kind size (TakeAck length) h = tt
 asks-inside kind size SendNak h = tt
-asks-inside kind size Running h = tt
+asks-inside kind size (Running address) h = tt
 
 -- the same of an ask that is known to be one of these
 pub ask-inside : (kind : Kind) (size : ℕ) (s : Step) → SoundStep kind size s → (a : Ask) → askOf s ≡ a → InAsk a size
@@ -58,7 +60,7 @@ asks-code (TakeCode n p) length place e = cc
 asks-code (SendXor n) length place e = cc
 asks-code (TakeAck n) length place e = cc
 asks-code SendNak length place e = cc
-asks-code Running length place e = cc
+asks-code (Running address) length place e = cc
 
 -- both branches of a test are sound
 sound-either : (kind : Kind) (size : ℕ) (t : Bool) (a b : Progress) → (t ≡ true → SoundStep kind size (a .step)) →
@@ -91,9 +93,9 @@ sound-took kind size (TakeExtendedHigh low) reason b h = sound-judged kind size 
 sound-took kind size (SendAck length) reason b h = h
 sound-took kind size (TakeCode length place) reason b h = sound-code kind size length (place + 1) (omega arith) (h .1)
 sound-took kind size (SendXor length) reason b h = h
-sound-took kind size (TakeAck length) reason b h = sound-either kind size (eqb b 6) _ _ (λ e. tt) (λ e. tt)
+sound-took kind size (TakeAck length) reason b h = sound-either kind size (eqb b 6) _ _ (λ e. lies-first ramBase size (omega (arith, h .0, h .1))) (λ e. tt)
 sound-took kind size SendNak reason b h = h
-sound-took kind size Running reason b h = h
+sound-took kind size (Running address) reason b h = h
 
 pub sound-sent : (kind : Kind) (size : ℕ) (s : Step) → SoundStep kind size s → SoundStep kind size (sent s)
 sound-sent kind size SendStx h = tt
@@ -107,7 +109,7 @@ sound-sent kind size (TakeCode length place) h = h
 sound-sent kind size (SendXor length) h = h
 sound-sent kind size (TakeAck length) h = h
 sound-sent kind size SendNak h = tt
-sound-sent kind size Running h = h
+sound-sent kind size (Running address) h = h
 
 pub due-sent : (s : Step) → needOf (askOf s) ≡ machine.send → due s ≡ suc (due (sent s))
 due-sent SendStx e = refl
@@ -121,4 +123,4 @@ due-sent (TakeCode length place) e = cc
 due-sent (SendXor length) e = refl
 due-sent (TakeAck length) e = cc
 due-sent SendNak e = refl
-due-sent Running e = cc
+due-sent (Running address) e = cc

@@ -27,7 +27,7 @@ askOf (step.TakeCode length place) = TakeCode length place
 askOf (SendXor length) = Send (Xor length)
 askOf (TakeAck length) = TakeByte
 askOf SendNak = Send (Byte nak)
-askOf Running = Halt
+askOf (Running address) = Halt
 
 abbrev pub needOf : Ask → Need
 needOf TakeByte = machine.take

@@ -4,6 +4,8 @@ use Prim.Native.Nat.{ℕ, _+_, _*_}
 use mathlib.Core.Bool.{cond}
 use lib.Dec.{eqb, leb, ltb}
 use Rattle.wire.specs.Line.{soh, ack}
+use Rattle.wire.specs.Unit.{ramBase}
+use Rattle.wire.specs.declared.unit.RamAddress.{RamAddress}
 use Rattle.rom_flow.specs.declared.kind.Kind.{Kind}
 use Rattle.rom_flow.specs.declared.kind.Kind.the-variants.{P, E}
 use Rattle.rom_flow.specs.declared.step.Step.{Step}
@@ -26,6 +28,10 @@ longCode = 33
 
 abbrev pub notAcked : ℕ
 notAcked = 34
+
+-- where loaded code runs: the RAM's first address
+abbrev pub start : RamAddress
+start = record { 0 = ramBase }
 
 abbrev pub to : Step → (reason : ℕ) → Progress
 to step reason = record { step = step; reason = reason }
@@ -55,12 +61,12 @@ took kind size (TakeHigh low) reason byte = headed kind size reason (low + 256 *
 took kind size TakeExtendedLow reason byte = to (TakeExtendedHigh byte) reason
 took kind size (TakeExtendedHigh low) reason byte = judged size reason (firstExtended + (low + 256 * byte))
 took kind size (TakeCode length place) reason byte = to (codeStep length (place + 1)) reason
-took kind size (TakeAck length) reason byte = cond (eqb byte ack) (to Running reason) (to SendStx notAcked)
+took kind size (TakeAck length) reason byte = cond (eqb byte ack) (to (Running start) reason) (to SendStx notAcked)
 took kind size SendStx reason byte = to SendStx reason
 took kind size (SendAck length) reason byte = to (SendAck length) reason
 took kind size (SendXor length) reason byte = to (SendXor length) reason
 took kind size SendNak reason byte = to SendNak reason
-took kind size Running reason byte = to Running reason
+took kind size (Running address) reason byte = to (Running address) reason
 
 -- the step once its byte is sent; a step that sends none stays
 abbrev pub sent : Step → Step
@@ -75,7 +81,7 @@ sent TakeExtendedLow = TakeExtendedLow
 sent (TakeExtendedHigh low) = TakeExtendedHigh low
 sent (TakeCode length place) = TakeCode length place
 sent (TakeAck length) = TakeAck length
-sent Running = Running
+sent (Running address) = Running address
 
 -- how many bytes are sent from here before one is taken
 abbrev pub due : Step → ℕ
@@ -90,4 +96,4 @@ due TakeExtendedLow = 0
 due (TakeExtendedHigh low) = 0
 due (TakeCode length place) = 0
 due (TakeAck length) = 0
-due Running = 0
+due (Running address) = 0

@@ -6,6 +6,7 @@ use mathlib.Core.Bool.{true}
 use mathlib.Core.List.{List}
 use lib.ListN.{length}
 use Rattle.wire.specs.Length.{isRamLength}
+use Rattle.wire.specs.Unit.{isInRam}
 use Rattle.rom_flow.specs.declared.kind.Kind.{Kind}
 use Rattle.rom_flow.specs.declared.kind.Kind.the-variants.{P, E}
 use Rattle.rom_flow.specs.declared.step.Step.{Step}
@@ -32,7 +33,7 @@ SoundStep kind size (TakeCode length place) = (place < length) × (length ≤ si
 SoundStep kind size (SendXor length) = Sized size length
 SoundStep kind size (TakeAck length) = Sized size length
 SoundStep kind size SendNak = Unit {0}
-SoundStep kind size Running = Unit {0}
+SoundStep kind size (Running address) = isInRam address size ≡ true
 
 -- a step to go on from, with this RAM
 pub record Ready (kind : Kind) (step : Step) (ram : List ℕ) : Type 0 where

@@ -14,6 +14,8 @@ use wire::line::ACK;
 use wire::line::NAK;
 use wire::line::SOH;
 use wire::line::STX;
+use wire::unit::RAM_BASE;
+use wire::unit::RamAddress;
 
 // The first length of kind E that is extended: 00 00, and two bytes of what the length is more than this.
 pub const FIRST_EXTENDED: usize = 65_536;
@@ -46,7 +48,7 @@ pub fn ask_of(step: Step) -> Ask
         Step::SendXor(length) => Ask::Send(Output::Xor(length)),
         Step::TakeAck(_) => Ask::TakeByte,
         Step::SendNak => Ask::Send(Output::Byte(NAK)),
-        Step::Running => Ask::Halt,
+        Step::Running(_) => Ask::Halt,
     }
 }
 
@@ -128,7 +130,7 @@ pub fn took(kind: Kind, size: u32, step: Step, reason: u32, byte: u8) -> Progres
         Step::TakeExtendedHigh(low) => judge(size, reason, FIRST_EXTENDED + pair(low, byte)),
         Step::TakeAck(_) => {
             if byte == ACK {
-                to(Step::Running, reason)
+                to(Step::Running(RamAddress(RAM_BASE)), reason)
             } else {
                 to(Step::SendStx, NOT_ACKED)
             }
@@ -138,7 +140,7 @@ pub fn took(kind: Kind, size: u32, step: Step, reason: u32, byte: u8) -> Progres
         Step::SendAck(_) => to(step, reason),
         Step::SendXor(_) => to(step, reason),
         Step::SendNak => to(step, reason),
-        Step::Running => to(step, reason),
+        Step::Running(_) => to(step, reason),
     }
 }
 
@@ -158,6 +160,6 @@ pub fn sent(step: Step) -> Step
         Step::TakeExtendedHigh(_) => step,
         Step::TakeCode(_, _) => step,
         Step::TakeAck(_) => step,
-        Step::Running => step,
+        Step::Running(_) => step,
     }
 }

@@ -1,7 +1,8 @@
 // Where the receiver's flow stands, and what a step asks.
+use wire::unit::RamAddress;
 
 // A step of the flow with what the header has brought: the low byte of a length, the code's length, the next code byte's place.
-// Running is running the code at the RAM's first address, 0x07FC0000.
+// Running has the address at which code runs.
 pub enum Step {
     SendStx,
     TakeSoh,
@@ -14,7 +15,7 @@ pub enum Step {
     SendXor(u32),
     TakeAck(u32),
     SendNak,
-    Running,
+    Running(RamAddress),
 }
 
 // What is sent: a byte, or the XOR of so many code bytes.

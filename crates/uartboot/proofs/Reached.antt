@@ -15,18 +15,14 @@ use Rattle.uartboot_flow.proofs.Laws.{same-lengths, held, lawful}
 use Rattle.uartboot_flow.proofs.Sounds.{Held}
 use Rattle.uartboot_record.specs.declared.Found.{Found}
 use Rattle.uartboot_record.specs.declared.Found.the-variants as found
-use Rattle.uartboot_record.specs.Record.{written, stepIn, decodedOf}
+use Rattle.uartboot_record.specs.Record.{written, phaseIn, stepIn, decodedOf}
 use Rattle.uartboot_record.proofs.Records.{decoded-sound, reads-back}
 use Rattle.uartboot.specs.Session.{uartboot}
-use Rattle.uartboot.specs.Reach.{StartsFresh, FreshAccepted, StaysAccepted}
+use Rattle.uartboot.specs.Reach.{FreshAccepted, StaysAccepted}
 use Rattle.uartboot.proofs.Calls.{fitting, fitting-accepted}
 
-pub starts-fresh : StartsFresh
-unfolding written
-starts-fresh m = refl
-
 pub fresh-accepted : FreshAccepted
-unfolding answerOf accepted decodedOf stepIn
+unfolding answerOf accepted decodedOf stepIn phaseIn
 fresh-accepted m input reply e = simp e refl
 
 -- a record that is read stands for a sound state with the memories that are lent

@@ -6,14 +6,10 @@ use mathlib.Core.List.{List}
 use Rattle.machine.specs.Session.{answerOf}
 use Rattle.machine.specs.declared.Record.{Record}
 use Rattle.command_execution.specs.Memories.{Memories, SameLengths}
-use Rattle.uartboot_flow.specs.Fresh.{freshRecord, fresh}
+use Rattle.uartboot_flow.specs.Fresh.{freshRecord}
 use Rattle.uartboot.specs.Session.{uartboot}
 
--- a session starts at the record that is handed out for it
-abbrev pub StartsFresh : Type 0
-StartsFresh = (m : Memories) → uartboot .write (fresh m) ≡ freshRecord
-
--- where the lengths are not refused, that record is accepted
+-- where the lengths are not refused, the record that is handed out is accepted
 abbrev pub FreshAccepted : Type 0
 FreshAccepted =
     (m : Memories) (input reply : List ℕ) → uartboot .refusal m ≡ 0 → answerOf uartboot freshRecord m input reply .report .number ≡ 0

@@ -4,8 +4,7 @@ use Prim.Native.Nat.{ℕ, _≤_, _<_}
 use mathlib.Core.Path.{_≡_}
 use mathlib.Core.Bool.{true}
 use lib.ListN.{length}
-use Rattle.wire.specs.Range.{liesIn}
-use Rattle.wire.specs.Unit.{ramBase}
+use Rattle.wire.specs.Unit.{isInRam}
 use Rattle.command.specs.Payload.{Carried}
 use Rattle.command_execution.specs.Memories.{Memories, Fitting}
 use Rattle.command_execution.specs.Execution.{Answering}
@@ -43,7 +42,7 @@ SoundStep ram work (Header step) = Unit {0}
 SoundStep ram work (Command opcode length step) = Carried opcode length work × SoundCommand length step
 SoundStep ram work (Answer opcode length step) = Answering opcode length work × SoundAnswer length step
 SoundStep ram work Refusal = Unit {0}
-SoundStep ram work (Running address) = liesIn (address .0) 1 ramBase ram ≡ true
+SoundStep ram work (Running address) = isInRam address ram ≡ true
 
 -- a step to go on from, with these memories
 pub record Ready (step : Step) (m : Memories) : Type 0 where

@@ -5,12 +5,12 @@ use native.Mathlib.Omega.{arith}
 use mathlib.Core.Path.{_≡_, refl, subst}
 use mathlib.Core.Bool.{true, false, cond, not}
 use lib.Dec.{eqb, ltb}
-use borrow.Author.Tests.{not-false, eqb-false, ltb-true, ltb-false, ne-eqb, lt-ltb, le-ltb}
+use borrow.Author.Tests.{not-false, eqb-true, eqb-false, ltb-true, ltb-false, ne-eqb, lt-ltb, le-ltb}
 use Rattle.wire.proofs.Tests.{in-cond}
-use Rattle.wire.specs.Range.{liesIn}
-use Rattle.wire.specs.Unit.{ramBase}
+use Rattle.wire.specs.Unit.{isInRam}
 use Rattle.machine.specs.declared.Record.{Record}
 use Rattle.command.specs.declared.opcode.Opcode.{Opcode}
+use Rattle.command.specs.declared.opcode.Opcode.the-variants.{Run}
 use Rattle.command.specs.declared.opcode.Lookup.{Lookup}
 use Rattle.command.specs.declared.opcode.Lookup.the-variants.{Known, Unknown}
 use Rattle.command.specs.Opcode.{opcodeNumber, opcodeOf, hasLength, hasAnswer}
@@ -30,58 +30,57 @@ use Rattle.uartboot_flow.specs.Sound.{SoundStep, SoundCommand, SoundAnswer}
 use Rattle.uartboot_record.specs.declared.Numbers.{Numbers}
 use Rattle.uartboot_record.specs.declared.Found.{Found}
 use Rattle.uartboot_record.specs.declared.Found.the-variants.{At, Unsound}
-use Rattle.uartboot_record.specs.Record.{fields, commandNumbers, answerNumbers, numbersOf, written, plainIn, payloadIn, commandIn, answerStepIn, answerIn, lastIn, withOpcode, stepIn, decodedOf}
+use Rattle.uartboot_record.specs.Record.{fields, commandNumbers, answerNumbers, numbersOf, written, placesOf, plainIn, payloadIn, commandIn, answerStepIn, answerIn, lastIn, withOpcode, phaseIn, stepIn, decodedOf}
 
 module _ (ram work : ℕ) where
   abbrev InFound : Found → Type 0
   InFound (At step) = SoundStep ram work step
   InFound Unsound = Unit {0}
 
-  -- a step whose place is below its end
-  placed-in : (p n : ℕ) (s : Step) → (p < n → SoundStep ram work s) → InFound (cond (ltb p n) (At s) Unsound)
-  placed-in p n s f = in-cond InFound (ltb p n) _ _ (λ e. f (ltb-true p n e)) (λ e. tt)
+  -- the place is one of its phase's
+  abbrev Placed : (phase size place : ℕ) → Type 0
+  Placed phase size place = place < placesOf phase size
 
-  plain-in : (n : Numbers) → InFound (plainIn n)
-  plain-in n =
+  plain-in : (n : Numbers) → Placed (n .phase) (n .length) (n .place) → InFound (plainIn n)
+  plain-in n p =
       let k = n .phase in
-      in-cond InFound (eqb k 0) _ _ (λ e. placed-in (n .place) greetingLength (Greeting (n .place)) (λ h. h)) (λ e.
+      in-cond InFound (eqb k 0) _ _ (λ e. rw (eqb-true k 0 e) at p) (λ e.
       in-cond InFound (eqb k 1) _ _ (λ e. tt) (λ e.
       in-cond InFound (eqb k 2) _ _ (λ e. tt) (λ e.
       in-cond InFound (eqb k 3) _ _ (λ e. tt) (λ e. tt))))
 
-  payload-in : (opcode : Opcode) (k n p : ℕ) → Carried opcode n work → 0 < n → InFound (payloadIn opcode k n p)
-  payload-in opcode k n p h some =
-      in-cond InFound (eqb k 6) _ _ (λ e. placed-in p n (Command opcode n (TakePayload p)) (λ l. (h, l))) (λ e.
+  payload-in : (opcode : Opcode) (k n p : ℕ) → Placed k n p → Carried opcode n work → 0 < n → InFound (payloadIn opcode k n p)
+  payload-in opcode k n p l h some =
+      in-cond InFound (eqb k 6) _ _ (λ e. (h, rw (eqb-true k 6 e) at l)) (λ e.
       in-cond InFound (eqb k 7) _ _ (λ e. (h, some)) (λ e.
       in-cond InFound (eqb k 8) _ _ (λ e. (h, some)) (λ e.
       in-cond InFound (eqb k 9) _ _ (λ e. (h, some)) (λ e. (h, some)))))
 
-  command-in : (opcode : Opcode) (n : Numbers) → InFound (commandIn work opcode n)
-  command-in opcode n =
+  command-in : (opcode : Opcode) (n : Numbers) → Placed (n .phase) (n .length) (n .place) → InFound (commandIn work opcode n)
+  command-in opcode n p =
       in-cond InFound (not (hasLength opcode (n .length))) _ _ (λ e. tt) (λ has.
       in-cond InFound (ltb work (n .length)) _ _ (λ e. tt) (λ fits.
       let h : Carried opcode (n .length) work = record { has-length = not-false _ has; in-work = ltb-false _ _ fits } in
       in-cond InFound (eqb (n .phase) 5) _ _ (λ e. (h, tt)) (λ e.
       in-cond InFound (eqb (n .length) 0) _ _ (λ e. tt) (λ some.
-      payload-in opcode (n .phase) (n .length) (n .place) h (omega (arith, eqb-false (n .length) 0 some))))))
+      payload-in opcode (n .phase) (n .length) (n .place) p h (omega (arith, eqb-false (n .length) 0 some))))))
 
-  answer-step-in : (opcode : Opcode) (n : Numbers) → Answering opcode (n .length) work → InFound (answerStepIn opcode n)
-  answer-step-in opcode n h =
+  answer-step-in : (opcode : Opcode) (n : Numbers) → Placed (n .phase) (n .length) (n .place) → Answering opcode (n .length) work → InFound (answerStepIn opcode n)
+  answer-step-in opcode n p h =
       let k = n .phase in
       in-cond InFound (eqb k 11) _ _ (λ e. (h, tt)) (λ e.
       in-cond InFound (eqb k 12) _ _ (λ e. (h, tt)) (λ e.
       in-cond InFound (eqb k 13) _ _ (λ e. (h, tt)) (λ e.
-      in-cond InFound (eqb k 14) _ _
-      (λ e. placed-in (n .place) (n .length) (Answer opcode (n .length) (a.SendAnswer (n .place))) (λ l. (h, l))) (λ e.
+      in-cond InFound (eqb k 14) _ _ (λ e. (h, rw (eqb-true k 14 e) at p)) (λ e.
       in-cond InFound (eqb k 15) _ _ (λ e. (h, tt)) (λ e.
       in-cond InFound (eqb k 16) _ _ (λ e. (h, tt)) (λ e. (h, tt)))))))
 
-  answer-in : (opcode : Opcode) (n : Numbers) → InFound (answerIn work opcode n)
-  answer-in opcode n =
+  answer-in : (opcode : Opcode) (n : Numbers) → Placed (n .phase) (n .length) (n .place) → InFound (answerIn work opcode n)
+  answer-in opcode n p =
       in-cond InFound (not (hasAnswer opcode)) _ _ (λ e. tt) (λ has.
       in-cond InFound (eqb (n .length) 0) _ _ (λ e. tt) (λ some.
       in-cond InFound (ltb work (n .length)) _ _ (λ e. tt) (λ fits.
-      answer-step-in opcode n
+      answer-step-in opcode n p
       (record {
         has-answer = not-false _ has;
         some = omega (arith, eqb-false (n .length) 0 some);
@@ -92,17 +91,23 @@ module _ (ram work : ℕ) where
   last-in n =
       in-cond InFound (eqb (n .phase) 18) _ _ (λ e. tt) (λ e.
       in-cond InFound (eqb (n .phase) 19) _ _
-      (λ e. in-cond InFound (liesIn (n .held) 1 ramBase ram) _ _ (λ inside. inside) (λ e. tt)) (λ e. tt))
+      (λ e. in-cond InFound (not (eqb (n .opcode) (opcodeNumber Run))) _ _ (λ e. tt) (λ e.
+      in-cond InFound (isInRam (record { 0 = n .held }) ram) _ _ (λ inside. inside) (λ e. tt))) (λ e. tt))
 
-  opcode-in : (found : Lookup) (n : Numbers) → InFound (withOpcode work found n)
-  opcode-in Unknown n = tt
-  opcode-in (Known opcode) n = in-cond InFound (ltb (n .phase) 11) _ _ (λ e. command-in opcode n) (λ e. answer-in opcode n)
+  opcode-in : (found : Lookup) (n : Numbers) → Placed (n .phase) (n .length) (n .place) → InFound (withOpcode work found n)
+  opcode-in Unknown n p = tt
+  opcode-in (Known opcode) n p = in-cond InFound (ltb (n .phase) 11) _ _ (λ e. command-in opcode n p) (λ e. answer-in opcode n p)
+
+  phase-in : (n : Numbers) → Placed (n .phase) (n .length) (n .place) → InFound (phaseIn ram work n)
+  unfolding phaseIn
+  phase-in n p =
+      in-cond InFound (ltb (n .phase) 5) _ _ (λ e. plain-in n p) (λ e.
+      in-cond InFound (ltb 17 (n .phase)) _ _ (λ e. last-in n) (λ e. opcode-in (opcodeOf (n .opcode)) n p))
 
   step-in : (n : Numbers) → InFound (stepIn ram work n)
   unfolding stepIn
   step-in n =
-      in-cond InFound (ltb (n .phase) 5) _ _ (λ e. plain-in n) (λ e.
-      in-cond InFound (ltb 17 (n .phase)) _ _ (λ e. last-in n) (λ e. opcode-in (opcodeOf (n .opcode)) n))
+      in-cond InFound (ltb (n .place) (placesOf (n .phase) (n .length))) _ _ (λ e. phase-in n (ltb-true _ _ e)) (λ e. tt)
 
   record-in : (r : Record) → InFound (decodedOf ram work r)
   unfolding decodedOf
@@ -132,9 +137,9 @@ module _ (ram work : ℕ) where
   -- every sound step is read back from its numbers
   command-back : (opcode : Opcode) (n : ℕ) (step : CommandStep) → Carried opcode n work → SoundCommand n step
       → stepIn ram work (commandNumbers (opcodeNumber opcode) n step) ≡ At (Command opcode n step)
-  unfolding stepIn
+  unfolding stepIn phaseIn
   command-back opcode n SendAck h s = rw (opcode-back opcode, h .has-length, le-ltb work n (h .in-work)) refl
-  command-back opcode n (TakePayload p) h s = rw (payload-back opcode 6 n p refl refl h (omega (arith, s)), lt-ltb p n s) refl
+  command-back opcode n (TakePayload p) h s = rw (lt-ltb p n s) (payload-back opcode 6 n p refl refl h (omega (arith, s)))
   command-back opcode n SendPayloadAck h s = payload-back opcode 7 n 0 refl refl h s
   command-back opcode n SendCrcLow h s = payload-back opcode 8 n 0 refl refl h s
   command-back opcode n SendCrcHigh h s = payload-back opcode 9 n 0 refl refl h s
@@ -142,17 +147,17 @@ module _ (ram work : ℕ) where
 
   answer-back : (opcode : Opcode) (n : ℕ) (step : AnswerStep) → Answering opcode n work → SoundAnswer n step
       → stepIn ram work (answerNumbers (opcodeNumber opcode) n step) ≡ At (Answer opcode n step)
-  unfolding stepIn
+  unfolding stepIn phaseIn
   answer-back opcode n a.SendLengthLow h s = answering-back opcode 11 n 0 0 refl h
   answer-back opcode n a.SendLengthHigh h s = answering-back opcode 12 n 0 0 refl h
   answer-back opcode n a.TakeGo h s = answering-back opcode 13 n 0 0 refl h
-  answer-back opcode n (a.SendAnswer p) h s = rw (answering-back opcode 14 n p 0 refl h, lt-ltb p n s) refl
+  answer-back opcode n (a.SendAnswer p) h s = rw (lt-ltb p n s) (answering-back opcode 14 n p 0 refl h)
   answer-back opcode n a.TakeCrcLow h s = answering-back opcode 15 n 0 0 refl h
   answer-back opcode n (a.TakeCrcHigh low) h s = answering-back opcode 16 n 0 low refl h
   answer-back opcode n a.SendAck h s = answering-back opcode 17 n 0 0 refl h
 
   step-back : (s : Step) → SoundStep ram work s → stepIn ram work (numbersOf s) ≡ At s
-  unfolding stepIn
+  unfolding stepIn phaseIn
   step-back (Greeting p) h = rw (lt-ltb p greetingLength h) refl
   step-back (Header TakeSoh) h = refl
   step-back (Header TakeOpcode) h = refl

@@ -1,13 +1,13 @@
 -- The session's record (01, "Memories and the record", and "Numbers given back", number 4: record unsound). Numbers that a phase does
--- not use are ignored when a record comes in, and are 0 in every record that an accepted call hands out.
+-- not use are ignored when a record comes in, but for the place; they are 0 in every record that an accepted call hands out.
 -- Assumes nothing.
 use Prim.Native.Nat.{ℕ}
 use mathlib.Core.Bool.{cond, not}
 use lib.Dec.{eqb, ltb}
-use Rattle.wire.specs.Range.{liesIn}
-use Rattle.wire.specs.Unit.{ramBase}
+use Rattle.wire.specs.Unit.{isInRam}
 use Rattle.machine.specs.declared.Record.{Record}
 use Rattle.command.specs.declared.opcode.Opcode.{Opcode}
+use Rattle.command.specs.declared.opcode.Opcode.the-variants.{Run}
 use Rattle.command.specs.declared.opcode.Lookup.{Lookup}
 use Rattle.command.specs.declared.opcode.Lookup.the-variants.{Known, Unknown}
 use Rattle.command.specs.Opcode.{opcodeNumber, opcodeOf, hasLength, hasAnswer}
@@ -58,7 +58,7 @@ numbersOf (Header step) = headerNumbers step
 numbersOf (Command opcode length step) = commandNumbers (opcodeNumber opcode) length step
 numbersOf (Answer opcode length step) = answerNumbers (opcodeNumber opcode) length step
 numbersOf Refusal = fields 18 0 0 0 0
-numbersOf (Running address) = fields 19 0 0 0 (address .0)
+numbersOf (Running address) = fields 19 (opcodeNumber Run) 0 0 (address .0)
 
 -- the record of a step
 unfoldable pub written : Step → (reason : ℕ) → Record
@@ -74,23 +74,31 @@ written step reason =
       spare = 0;
     }
 
--- phases 0 to 4; the place is that of the greeting's next byte, so it is below 4, and the header's numbers may be any
+-- how many places a phase has: one for each byte of the greeting, of a payload or of an answer, and else only 0
+abbrev pub placesOf : (phase size : ℕ) → ℕ
+placesOf phase size =
+    cond (eqb phase 0) greetingLength
+    (cond (eqb phase 6) size
+    (cond (eqb phase 14) size
+    1))
+
+-- phases 0 to 4; the header's numbers may be any
 abbrev pub plainIn : Numbers → Found
 plainIn n =
-    cond (eqb (n .phase) 0) (cond (ltb (n .place) greetingLength) (At (Greeting (n .place))) Unsound)
+    cond (eqb (n .phase) 0) (At (Greeting (n .place)))
     (cond (eqb (n .phase) 1) (At (Header TakeSoh))
     (cond (eqb (n .phase) 2) (At (Header TakeOpcode))
     (cond (eqb (n .phase) 3) (At (Header (TakeLow (n .opcode))))
     (At (Header (TakeHigh (n .opcode) (n .held)))))))
 
--- phases 6 to 10; the place is that of the payload's next byte
-abbrev pub payloadIn : Opcode → (phase length place : ℕ) → Found
-payloadIn opcode phase length place =
-    cond (eqb phase 6) (cond (ltb place length) (At (Command opcode length (TakePayload place))) Unsound)
-    (cond (eqb phase 7) (At (Command opcode length SendPayloadAck))
-    (cond (eqb phase 8) (At (Command opcode length SendCrcLow))
-    (cond (eqb phase 9) (At (Command opcode length SendCrcHigh))
-    (At (Command opcode length TakeGo)))))
+-- phases 6 to 10
+abbrev pub payloadIn : Opcode → (phase size place : ℕ) → Found
+payloadIn opcode phase size place =
+    cond (eqb phase 6) (At (Command opcode size (TakePayload place)))
+    (cond (eqb phase 7) (At (Command opcode size SendPayloadAck))
+    (cond (eqb phase 8) (At (Command opcode size SendCrcLow))
+    (cond (eqb phase 9) (At (Command opcode size SendCrcHigh))
+    (At (Command opcode size TakeGo)))))
 
 -- phases 5 to 10, with a work buffer of `work` bytes; without payload only phase 5 is there
 abbrev pub commandIn : (work : ℕ) → Opcode → Numbers → Found
@@ -101,13 +109,13 @@ commandIn work opcode n =
     (cond (eqb (n .length) 0) Unsound
     (payloadIn opcode (n .phase) (n .length) (n .place)))))
 
--- phases 11 to 17; the place is that of the answer's next byte
+-- phases 11 to 17
 abbrev pub answerStepIn : Opcode → Numbers → Found
 answerStepIn opcode n =
     cond (eqb (n .phase) 11) (At (Answer opcode (n .length) a.SendLengthLow))
     (cond (eqb (n .phase) 12) (At (Answer opcode (n .length) a.SendLengthHigh))
     (cond (eqb (n .phase) 13) (At (Answer opcode (n .length) a.TakeGo))
-    (cond (eqb (n .phase) 14) (cond (ltb (n .place) (n .length)) (At (Answer opcode (n .length) (a.SendAnswer (n .place)))) Unsound)
+    (cond (eqb (n .phase) 14) (At (Answer opcode (n .length) (a.SendAnswer (n .place))))
     (cond (eqb (n .phase) 15) (At (Answer opcode (n .length) a.TakeCrcLow))
     (cond (eqb (n .phase) 16) (At (Answer opcode (n .length) (a.TakeCrcHigh (n .held))))
     (At (Answer opcode (n .length) a.SendAck)))))))
@@ -119,24 +127,30 @@ answerIn work opcode n =
     (cond (ltb work (n .length)) Unsound
     (answerStepIn opcode n)))
 
--- code runs in RAM
-abbrev pub runningIn : (ram address : ℕ) → Found
-runningIn ram address = cond (liesIn address 1 ramBase ram) (At (Running (record { 0 = address }))) Unsound
+-- code runs in RAM, by the command Run
+abbrev pub runningIn : (ram opcode address : ℕ) → Found
+runningIn ram opcode address =
+    cond (not (eqb opcode (opcodeNumber Run))) Unsound
+    (cond (isInRam (record { 0 = address }) ram) (At (Running (record { 0 = address }))) Unsound)
 
 -- phases 18 and 19, and unknown ones
 abbrev pub lastIn : (ram : ℕ) → Numbers → Found
-lastIn ram n = cond (eqb (n .phase) 18) (At Refusal) (cond (eqb (n .phase) 19) (runningIn ram (n .held)) Unsound)
+lastIn ram n = cond (eqb (n .phase) 18) (At Refusal) (cond (eqb (n .phase) 19) (runningIn ram (n .opcode) (n .held)) Unsound)
 
 -- a command's or an answer's opcode must be known
 abbrev pub withOpcode : (work : ℕ) → Lookup → Numbers → Found
 withOpcode work Unknown n = Unsound
 withOpcode work (Known opcode) n = cond (ltb (n .phase) 11) (commandIn work opcode n) (answerIn work opcode n)
 
-unfoldable pub stepIn : (ram work : ℕ) → Numbers → Found
-stepIn ram work n =
+unfoldable pub phaseIn : (ram work : ℕ) → Numbers → Found
+phaseIn ram work n =
     cond (ltb (n .phase) 5) (plainIn n)
     (cond (ltb 17 (n .phase)) (lastIn ram n)
     (withOpcode work (opcodeOf (n .opcode)) n))
+
+-- a place beyond what its phase takes or sends is unsound
+unfoldable pub stepIn : (ram work : ℕ) → Numbers → Found
+stepIn ram work n = cond (ltb (n .place) (placesOf (n .phase) (n .length))) (phaseIn ram work n) Unsound
 
 -- what a record stands for, with memories of these lengths
 unfoldable pub decodedOf : (ram work : ℕ) → Record → Found

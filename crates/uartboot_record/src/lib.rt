@@ -1,6 +1,6 @@
 // The record of a uartboot session: a step in numbers, and back.
 ghost use mathlib.Core.Path.{_≡_};
-ghost use Rattle.uartboot_record.specs.Record.{fields, headerNumbers, commandNumbers, answerNumbers, numbersOf, written, plainIn, payloadIn, commandIn, answerStepIn, answerIn, runningIn, lastIn, stepIn, decodedOf};
+ghost use Rattle.uartboot_record.specs.Record.{fields, headerNumbers, commandNumbers, answerNumbers, numbersOf, written, placesOf, plainIn, payloadIn, commandIn, answerStepIn, answerIn, runningIn, lastIn, phaseIn, stepIn, decodedOf};
 use command::opcode::Lookup;
 use command::opcode::Opcode;
 use command::opcode::has_answer;
@@ -13,7 +13,6 @@ use uartboot_flow::step::AnswerStep;
 use uartboot_flow::step::CommandStep;
 use uartboot_flow::step::HeaderStep;
 use uartboot_flow::step::Step;
-use wire::range::Place;
 use wire::unit::RamAddress;
 
 // A step in numbers. `held` is a low byte, or the address at which code runs.
@@ -90,7 +89,7 @@ fn numbers_of(step: Step) -> Numbers
         Step::Command(opcode, length, inner) => command_numbers(number_of(opcode), length, inner),
         Step::Answer(opcode, length, inner) => answer_numbers(number_of(opcode), length, inner),
         Step::Refusal => fields(18, 0, 0, 0, 0),
-        Step::Running(address) => fields(19, 0, 0, 0, address.0),
+        Step::Running(address) => fields(19, number_of(Opcode::Run), 0, 0, address.0),
     }
 }
 
@@ -111,19 +110,25 @@ pub fn encode(step: Step, reason: u32) -> Record
     }
 }
 
+// How many places a phase has.
+fn places_of(phase: u32, size: u32) -> u32
+    ensures { λ r. ⌜ r ≡ placesOf phase size ⌝ }
+{
+    match phase {
+        0 => Uartboot::GREETING_LENGTH,
+        6 => size,
+        14 => size,
+        _ => 1,
+    }
+}
+
 // The greeting and the header; any other phase is the header's last one.
 fn plain_in(n: Numbers) -> Found
     ensures { λ r. ⌜ r ≡ plainIn n ⌝ }
 {
     let phase = n.phase;
     match phase {
-        0 => {
-            if n.place < Uartboot::GREETING_LENGTH {
-                Found::At(Step::Greeting(n.place))
-            } else {
-                Found::Unsound
-            }
-        }
+        0 => Found::At(Step::Greeting(n.place)),
         1 => Found::At(Step::Header(HeaderStep::TakeSoh)),
         2 => Found::At(Step::Header(HeaderStep::TakeOpcode)),
         3 => Found::At(Step::Header(HeaderStep::TakeLow(n.opcode))),
@@ -132,21 +137,15 @@ fn plain_in(n: Numbers) -> Found
 }
 
 // The steps from a payload's first byte on; any other phase is the last of them.
-fn payload_in(opcode: Opcode, phase: u32, length: u32, place: u32) -> Found
-    ensures { λ r. ⌜ r ≡ payloadIn opcode phase length place ⌝ }
+fn payload_in(opcode: Opcode, phase: u32, size: u32, place: u32) -> Found
+    ensures { λ r. ⌜ r ≡ payloadIn opcode phase size place ⌝ }
 {
     match phase {
-        6 => {
-            if place < length {
-                Found::At(Step::Command(opcode, length, CommandStep::TakePayload(place)))
-            } else {
-                Found::Unsound
-            }
-        }
-        7 => Found::At(Step::Command(opcode, length, CommandStep::SendPayloadAck)),
-        8 => Found::At(Step::Command(opcode, length, CommandStep::SendCrcLow)),
-        9 => Found::At(Step::Command(opcode, length, CommandStep::SendCrcHigh)),
-        _ => Found::At(Step::Command(opcode, length, CommandStep::TakeGo)),
+        6 => Found::At(Step::Command(opcode, size, CommandStep::TakePayload(place))),
+        7 => Found::At(Step::Command(opcode, size, CommandStep::SendPayloadAck)),
+        8 => Found::At(Step::Command(opcode, size, CommandStep::SendCrcLow)),
+        9 => Found::At(Step::Command(opcode, size, CommandStep::SendCrcHigh)),
+        _ => Found::At(Step::Command(opcode, size, CommandStep::TakeGo)),
     }
 }
 
@@ -180,13 +179,7 @@ fn answer_step_in(opcode: Opcode, n: Numbers) -> Found
         11 => Found::At(Step::Answer(opcode, length, AnswerStep::SendLengthLow)),
         12 => Found::At(Step::Answer(opcode, length, AnswerStep::SendLengthHigh)),
         13 => Found::At(Step::Answer(opcode, length, AnswerStep::TakeGo)),
-        14 => {
-            if n.place < length {
-                Found::At(Step::Answer(opcode, length, AnswerStep::SendAnswer(n.place)))
-            } else {
-                Found::Unsound
-            }
-        }
+        14 => Found::At(Step::Answer(opcode, length, AnswerStep::SendAnswer(n.place))),
         15 => Found::At(Step::Answer(opcode, length, AnswerStep::TakeCrcLow)),
         16 => Found::At(Step::Answer(opcode, length, AnswerStep::TakeCrcHigh(n.held))),
         _ => Found::At(Step::Answer(opcode, length, AnswerStep::SendAck)),
@@ -209,13 +202,17 @@ fn answer_in(work: usize, opcode: Opcode, n: Numbers) -> Found
     answer_step_in(opcode, n)
 }
 
-// Code runs at an address in RAM.
-fn running_in(ram: usize, address: u32) -> Found
-    ensures { λ r. ⌜ r ≡ runningIn ram address ⌝ }
+// Code runs at an address in RAM, by the command Run.
+fn running_in(ram: usize, opcode: u32, address: u32) -> Found
+    ensures { λ r. ⌜ r ≡ runningIn ram opcode address ⌝ }
 {
-    match RamAddress(address).place(1, ram) {
-        Place::Inside(_) => Found::At(Step::Running(RamAddress(address))),
-        Place::Outside => Found::Unsound,
+    if opcode != number_of(Opcode::Run) {
+        return Found::Unsound;
+    }
+    if RamAddress(address).is_in(ram) {
+        Found::At(Step::Running(RamAddress(address)))
+    } else {
+        Found::Unsound
     }
 }
 
@@ -225,13 +222,14 @@ fn last_in(ram: usize, n: Numbers) -> Found
     let phase = n.phase;
     match phase {
         18 => Found::At(Step::Refusal),
-        19 => running_in(ram, n.held),
+        19 => running_in(ram, n.opcode, n.held),
         _ => Found::Unsound,
     }
 }
 
-fn step_in(ram: usize, work: usize, n: Numbers) -> Found
-    ensures { λ r. ⌜ r ≡ stepIn ram work n ⌝ }
+// The step of a phase, whatever the place.
+fn phase_in(ram: usize, work: usize, n: Numbers) -> Found
+    ensures { λ r. ⌜ r ≡ phaseIn ram work n ⌝ }
 {
     if n.phase < 5 {
         return plain_in(n);
@@ -246,6 +244,16 @@ fn step_in(ram: usize, work: usize, n: Numbers) -> Found
         return command_in(work, opcode, n);
     }
     answer_in(work, opcode, n)
+}
+
+fn step_in(ram: usize, work: usize, n: Numbers) -> Found
+    ensures { λ r. ⌜ r ≡ stepIn ram work n ⌝ }
+{
+    if n.place < places_of(n.phase, n.length) {
+        phase_in(ram, work, n)
+    } else {
+        Found::Unsound
+    }
 }
 
 // The step that a record stands for, with memories of these lengths.

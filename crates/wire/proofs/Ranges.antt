@@ -56,6 +56,11 @@ module _ (start count base length : ℕ) where
       (λ t. absurd (let q : Inside (start - base) ≡ Outside = simp t at e in let z : _≡_ {A = ℕ} 0 1 = cc in omega arith))
       (λ t. t)
 
+-- a memory's first byte lies in it
+pub lies-first : (base size : ℕ) → 0 < size → liesIn base 1 base size ≡ true
+unfolding liesIn
+lies-first base size h = rw (le-leb base base (omega arith), le-leb (base + 1) (base + size) (omega arith))
+
 -- a range in a memory that begins at 0
 pub lies-fits : (start count length : ℕ) → liesIn start count 0 length ≡ true → start + count ≤ length
 unfolding liesIn

@@ -1,6 +1,6 @@
 // The two units that a place on the device has.
 ghost use mathlib.Core.Path.{_≡_};
-ghost use Rattle.wire.specs.Unit.{ramPlace, flashPlace};
+ghost use Rattle.wire.specs.Unit.{ramPlace, isInRam, flashPlace};
 use crate::range::Place;
 use crate::range::place_in;
 
@@ -19,6 +19,16 @@ impl RamAddress {
         ensures { λ r. ⌜ r ≡ ramPlace self count ram ⌝ }
     {
         place_in(self.0 as usize, count, RAM_BASE as usize, ram)
+    }
+
+    // Whether the byte at this address lies in a RAM of `ram` bytes.
+    pub fn is_in(self, ram: usize) -> bool
+        ensures { λ r. ⌜ r ≡ isInRam self ram ⌝ }
+    {
+        match self.place(1, ram) {
+            Place::Inside(_) => true,
+            Place::Outside => false,
+        }
     }
 }
 

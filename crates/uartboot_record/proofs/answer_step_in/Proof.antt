@@ -1,6 +1,6 @@
--- `uartboot_record::answer_step_in`: by the phase, and the answer's place.
+-- `uartboot_record::answer_step_in`: by the phase.
 -- Assumes nothing.
-use borrow.Author.Tests.{lt-ltb, le-ltb, ne-eqb}
+use borrow.Author.Tests.{ne-eqb}
 use Rattle.uartboot_record.proofs.answer_step_in.Statement.{statement}
 use Rattle.uartboot_record.proofs.answer_step_in.Tie as tie
 
@@ -14,19 +14,16 @@ returns-3 : tie.Need-returns-3
 returns-3 c = simp (c .match .keys3)
 
 returns-4 : tie.Need-returns-4
-returns-4 c = simp (lt-ltb _ _ (c .if1 .taken), c .before .before .match .keys4)
+returns-4 c = simp (c .match .keys4)
 
 returns-5 : tie.Need-returns-5
-returns-5 c = simp (le-ltb _ _ (c .if1 .left), c .before .before .match .keys4)
+returns-5 c = simp (c .match .keys5)
 
 returns-6 : tie.Need-returns-6
-returns-6 c = simp (c .match .keys5)
+returns-6 c = simp (c .match .keys6)
 
 returns-7 : tie.Need-returns-7
-returns-7 c = simp (c .match .keys6)
-
-returns-8 : tie.Need-returns-8
-returns-8 c =
+returns-7 c =
     simp (
       ne-eqb _ _ (c .match .rest .1),
       ne-eqb _ _ (c .match .rest .0 .1),
@@ -39,4 +36,4 @@ returns-8 c =
 pub answer-step-in-spec : {M : Type 1} → statement M
 answer-step-in-spec =
     tie.close
-    (tie.spec returns returns-2 returns-3 returns-4 returns-5 returns-6 returns-7 returns-8)
+    (tie.spec returns returns-2 returns-3 returns-4 returns-5 returns-6 returns-7)

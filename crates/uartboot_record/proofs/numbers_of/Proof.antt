@@ -43,6 +43,9 @@ fields-requires-2 c κs = search needs
 enum-known-step-5 : tie.Need-enum-known-step-5
 enum-known-step-5 c = search needs
 
+number-of-requires-3 : tie.Need-number-of-requires-3
+number-of-requires-3 c κs = search needs
+
 fields-requires-3 : tie.Need-fields-requires-3
 fields-requires-3 c κs = search needs
 
@@ -62,7 +65,7 @@ returns-5 : tie.Need-returns-5
 returns-5 c = simp (c .fields2 .ensures, c .before .enum-told .given .1)
 
 returns-6 : tie.Need-returns-6
-returns-6 c = simp (c .fields3 .ensures, c .before .before .step5 .given .1)
+returns-6 c = simp (c .fields3 .ensures, c .before .number-of3 .ensures, c .before .before .before .step5 .given .1)
 
 pub numbers-of-spec : {M : Type 1} → statement M
 numbers-of-spec =
@@ -81,6 +84,7 @@ numbers-of-spec =
     enum-told
     fields-requires-2
     enum-known-step-5
+    number-of-requires-3
     fields-requires-3
     returns
     returns-2

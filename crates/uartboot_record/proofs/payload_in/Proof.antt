@@ -1,26 +1,23 @@
--- `uartboot_record::payload_in`: by the phase, and the payload's place.
+-- `uartboot_record::payload_in`: by the phase.
 -- Assumes nothing.
-use borrow.Author.Tests.{lt-ltb, le-ltb, ne-eqb}
+use borrow.Author.Tests.{ne-eqb}
 use Rattle.uartboot_record.proofs.payload_in.Statement.{statement}
 use Rattle.uartboot_record.proofs.payload_in.Tie as tie
 
 returns : tie.Need-returns
-returns c = simp (lt-ltb _ _ (c .if1 .taken), c .before .match .keys1)
+returns c = simp (c .match .keys1)
 
 returns-2 : tie.Need-returns-2
-returns-2 c = simp (le-ltb _ _ (c .if1 .left), c .before .match .keys1)
+returns-2 c = simp (c .match .keys2)
 
 returns-3 : tie.Need-returns-3
-returns-3 c = simp (c .match .keys2)
+returns-3 c = simp (c .match .keys3)
 
 returns-4 : tie.Need-returns-4
-returns-4 c = simp (c .match .keys3)
+returns-4 c = simp (c .match .keys4)
 
 returns-5 : tie.Need-returns-5
-returns-5 c = simp (c .match .keys4)
-
-returns-6 : tie.Need-returns-6
-returns-6 c =
+returns-5 c =
     simp (
       ne-eqb _ _ (c .match .rest .1),
       ne-eqb _ _ (c .match .rest .0 .1),
@@ -29,4 +26,4 @@ returns-6 c =
     )
 
 pub payload-in-spec : {M : Type 1} → statement M
-payload-in-spec = tie.close (tie.spec returns returns-2 returns-3 returns-4 returns-5 returns-6)
+payload-in-spec = tie.close (tie.spec returns returns-2 returns-3 returns-4 returns-5)

@@ -1,31 +1,33 @@
--- `uartboot_record::running_in`: by the place of the address in RAM.
+-- `uartboot_record::running_in`: by the opcode, and by whether the address lies in RAM.
 -- Assumes nothing.
 use mathlib.Core.Path.{sym, _∙_}
-use Rattle.wire.specs.Unit.{ramBase}
-use Rattle.wire.proofs.Ranges.{lies-inside, lies-outside}
+use borrow.Author.Tests.{eq-eqb, ne-eqb}
 use borrow.Author.Needs.{needs}
 use Rattle.uartboot_record.proofs.running_in.Statement.{statement}
 use Rattle.uartboot_record.proofs.running_in.Tie as tie
 
-place-requires : tie.Need-place-requires
-place-requires c κs = search needs
-
-enum-told : tie.Need-enum-told
-enum-told c = search needs
-
-enum-told-2 : tie.Need-enum-told-2
-enum-told-2 c = search needs
+number-of-requires : tie.Need-number-of-requires
+number-of-requires c κs = search needs
 
 returns : tie.Need-returns
-returns c =
-    let a = c .before .before .before .args in
-    let found = c .enum-told .given in
-    simp (lies-inside (a .address) 1 ramBase (a .ram) (found .0 .0) (sym (c .before .before .place .ensures) ∙ found .1))
+returns c = simp (ne-eqb _ _ (λ e. c .if1 .taken (e ∙ sym (c .before .number-of .ensures))))
+
+is-in-requires : tie.Need-is-in-requires
+is-in-requires c κs = search needs
 
 returns-2 : tie.Need-returns-2
 returns-2 c =
-    let a = c .before .before .before .args in
-    simp (lies-outside (a .address) 1 ramBase (a .ram) (sym (c .before .before .place .ensures) ∙ c .enum-told2 .given .1))
+    simp (
+      eq-eqb _ _ (c .before .before .if1 .left ∙ c .before .before .before .number-of .ensures),
+      sym (c .before .is-in .ensures) ∙ c .if2 .taken,
+    )
+
+returns-3 : tie.Need-returns-3
+returns-3 c =
+    simp (
+      eq-eqb _ _ (c .before .before .if1 .left ∙ c .before .before .before .number-of .ensures),
+      sym (c .before .is-in .ensures) ∙ c .if2 .left,
+    )
 
 pub running-in-spec : {M : Type 1} → statement M
-running-in-spec = tie.close (tie.spec place-requires enum-told enum-told-2 returns returns-2)
+running-in-spec = tie.close (tie.spec number-of-requires returns is-in-requires returns-2 returns-3)

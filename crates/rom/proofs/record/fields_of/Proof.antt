@@ -70,8 +70,8 @@ enum-told-5 c = search needs
 fields-requires-11 : tie.Need-fields-requires-11
 fields-requires-11 c κs = search needs
 
-enum-told-6 : tie.Need-enum-told-6
-enum-told-6 c = search needs
+enum-known-step-7 : tie.Need-enum-known-step-7
+enum-known-step-7 c = search needs
 
 fields-requires-12 : tie.Need-fields-requires-12
 fields-requires-12 c κs = search needs
@@ -110,7 +110,7 @@ returns-11 : tie.Need-returns-11
 returns-11 c = simp (c .fields11 .ensures, c .before .enum-told5 .given .1)
 
 returns-12 : tie.Need-returns-12
-returns-12 c = simp (c .fields12 .ensures, c .before .enum-told6 .given .1)
+returns-12 c = simp (c .fields12 .ensures, c .before .before .step7 .given .1)
 
 pub fields-of-spec : {M : Type 1} → statement M
 fields-of-spec =
@@ -138,7 +138,7 @@ fields-of-spec =
     fields-requires-10
     enum-told-5
     fields-requires-11
-    enum-told-6
+    enum-known-step-7
     fields-requires-12
     returns
     returns-2
