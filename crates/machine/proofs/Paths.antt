@@ -7,7 +7,7 @@ use mathlib.Core.Path.{_≡_, refl, sym, ap, subst, _∙_}
 use mathlib.Core.Bool.{true, _&&_}
 use mathlib.Core.List.{List, [], _∷_}
 use lib.Dec.{leb}
-use lib.ListN.{length, take, drop, length-take, take-append-drop}
+use lib.ListN.{length, take, drop, length-take, length-drop, take-append-drop}
 use lib.Seq.{take-length, length-take-le, take-append-le, drop-append-le, drop-drop}
 use borrow.Author.Tests.{leb-true}
 use borrow.Table.Steps.{cases}
@@ -16,7 +16,7 @@ use Rattle.machine.specs.Machine.{Need, acts, runs, Machine}
 use Rattle.machine.specs.Outcome.{Outcome, halt, acted, join}
 use Rattle.machine.specs.Call.{Call, offered, refused, act, call, calls}
 use Rattle.machine.specs.Uncut.{drainAt, drain, feed, uncut}
-use Rattle.machine.specs.History.{Event, Path, here, more, Came}
+use Rattle.machine.specs.History.{Event, Path, here, more, Came, trace, Leads}
 use Rattle.machine.specs.Lawful.{Every, Kept, Lawful, Any}
 use Rattle.machine.specs.Claim.{Begins}
 use Rattle.machine.proofs.Outcomes.{join-assoc, halt-join, join-halt}
@@ -47,6 +47,13 @@ module _ {A S : Type 0} (m : Machine A S) {Good : A → Type 0} {Sound : S → T
   path-keeps k w h here = h
   path-keeps k w h (more {events = events} {o = o} {views = views} {view = view} p e v l) =
       k events (o .final) view views e l (rw v (every-take Good views (drop (o .taken) stream) (every-drop Good (o .taken) stream w))) (path-keeps k w h p)
+
+  -- no more is taken than there is
+  pub path-within : {events : List (Event A S)} {o : Outcome S} → Path m start stream events o → o .taken ≤ length stream
+  path-within here = omega arith
+  path-within (more {o = o} {views = views} {view = view} p e v l) =
+      let left : length view ≤ length stream - o .taken = rw v (omega (arith, length-take views (drop (o .taken) stream), length-drop (o .taken) stream)) in
+      omega (arith, path-within p, left, law .takes-in-view (o .final) view)
 
   -- one action more
   pub came-on : (o : Outcome S) → Came m start stream o → (views : ℕ) → m .need (o .final) ≡ acts views →
@@ -220,6 +227,33 @@ module _ {A S : Type 0} (m : Machine A S) {Good : A → Type 0} {Sound : S → T
       let drained = rw (halt-join start due) at (drain-came (m .due start) (halt start) at-start) in
       let same : drop (due .taken) stream ≡ stream = rw (drain-takes-none m (m .due start) (m .need start) start) refl in
       rw same at (feeds-all (suc (length stream)) due drained)
+
+-- a trace leads somewhere
+pub traced : {A S : Type 0} (m : Machine A S) (start : S) (stream : List A) (fuel : ℕ) (events : List (Event A S)) (o : Outcome S) →
+    Path m start stream events o → Leads m start stream (trace m fuel (m .need (o .final)) (o .final) (drop (o .taken) stream) events)
+unfolding trace
+traced m start stream zero events o p = record { outcome = _; path = p }
+traced {A} {S} m start stream (suc fuel) events o p = go (m .need (o .final)) refl (traced m start stream fuel)
+  where
+    Later : Type 0
+    Later = (before : List (Event A S)) (q : Outcome S) → Path m start stream before q →
+        Leads m start stream (trace m fuel (m .need (q .final)) (q .final) (drop (q .taken) stream) before)
+
+    rest : List A
+    rest = drop (o .taken) stream
+
+    go : (n : Need) → m .need (o .final) ≡ n → Later → Leads m start stream (trace m (suc fuel) n (o .final) rest events)
+    go runs e ih = record { outcome = _; path = p }
+    go (acts views) e ih = cases (leb views (length rest)) (λ t. rw t (goes t)) (λ f. rw f (record { outcome = _; path = p }))
+      where
+        view : List A
+        view = take views rest
+
+        goes : leb views (length rest) ≡ true →
+            Leads m start stream (trace m fuel (m .need (m .after (o .final) view)) (m .after (o .final) view) (drop (m .takes (o .final) view) rest) (record { state = o .final; view = view } ∷ events))
+        goes t =
+            rw (drop-drop (m .takes (o .final) view) (o .taken) stream)
+            (ih _ _ (more p e refl (length-take-le views rest (leb-true _ _ t))))
 
 -- any symbols are any
 pub all-any : {A : Type 0} (xs : List A) → Every Any xs

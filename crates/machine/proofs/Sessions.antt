@@ -6,10 +6,11 @@ use mathlib.Core.Path.{_≡_, refl, sym, ap, _∙_}
 use mathlib.Core.List.{List, [], _∷_, map}
 use lib.ListN.{length, take, drop, length-append, length-drop}
 use lib.Seq.{drop-drop, drop-length, take-append-seam}
-use borrow.Author.Tests.{eq-eqb, ne-eqb}
+use borrow.Author.Tests.{eq-eqb, ne-eqb, lt-ltb}
 use Rattle.machine.specs.Machine.{Need, acts, runs, Machine}
 use Rattle.machine.specs.Outcome.{Outcome, halt, join}
 use Rattle.machine.specs.Call.{Call, offered, standing, call, calls}
+use Rattle.machine.specs.Uncut.{uncut}
 use Rattle.machine.specs.History.{Event, Came}
 use Rattle.machine.specs.Lawful.{Every, Lawful}
 use Rattle.machine.specs.Claim.{Stopped}
@@ -17,12 +18,12 @@ use Rattle.machine.specs.Session.{Session, Answer, refused, accepted, an
 use Rattle.machine.specs.SessionLaws.{OneByOne, Faithful}
 use Rattle.machine.specs.Listing.{Lent, totals, answers, given, Made, none, next}
 use Rattle.machine.specs.SessionClaim as claim
-use Rattle.machine.specs.SessionClaim.{Stops, Starves, TakesAll, Follows, Claim, MadeClaim}
+use Rattle.machine.specs.SessionClaim.{Stops, Starves, TakesAll, Ended, DefinitionEnds, Follows, Claim, MadeClaim}
 use Rattle.machine.specs.declared.Record.{Record}
 use Rattle.machine.proofs.Outcomes.{halt-join}
 use Rattle.machine.proofs.Actions.{call-run, call-short, call-full}
-use Rattle.machine.proofs.Paths.{path-keeps, call-came, calls-came, at-start}
-use Rattle.machine.proofs.Stops.{stands-running, stands-waiting, call-blocked, still}
+use Rattle.machine.proofs.Paths.{path-keeps, path-within, call-came, calls-came, at-start, uncut-came}
+use Rattle.machine.proofs.Stops.{stands-running, stands-waiting, call-blocked, uncut-stops, still}
 use Rattle.machine.proofs.Refusals.{Accepts, accepts-standing}
 use Rattle.machine.proofs.Cuts.{came-holds}
 
@@ -161,8 +162,36 @@ module _ {A M S : Type 0} (σ : Session A M S) {Good : A → Type 0} {fresh : M 
             reached-is = (refl, refl);
             reads-as = law .reads-back (o .final) (came-sound o c);
             history = c;
-            told = λ events p. tells events (o .final) (path-keeps m (law .lawful) start stream (law .kept) w first p);
+            told = λ events p led. tells events (p .final) (path-keeps m (law .lawful) start stream (law .kept) w first led);
           }
+
+  -- one by one: the uncut definition stops with all taken, or since code runs
+  pub definition-ends : OneByOne m → DefinitionEnds σ Good fresh
+  definition-ends one mem stream w e = ended (uncut-stops m (law .lawful) s g stream w)
+    where
+      s : S
+      s = fresh mem
+
+      g : Sound s
+      g = law .fresh-sound mem e
+
+      u : Outcome S
+      u = uncut m s stream
+
+      came : Came m s stream u
+      came = uncut-came m (law .lawful) s stream
+
+      stands : answerOf σ (σ .write (u .final)) (σ .memories (u .final)) [] [] .report .standing ≡ standing m (u .final) []
+      stands = quiet-standing (u .final) (came-sound s g stream w u came)
+
+      ended : Stopped m (u .final) (drop (u .taken) stream) → Ended σ stream (given σ u)
+      ended (Stopped.running q) = claim.Ended.running (stands ∙ rw (stands-running (m .need (u .final)) (length (drop (u .taken) stream)) q) refl)
+      ended (Stopped.waits q) =
+          let l = stands-waiting (m .need (u .final)) (length (drop (u .taken) stream)) q in
+          let most = one (u .final) (l .views) (l .need-is) in
+          let within = path-within m (law .lawful) s stream (came .path) in
+          claim.Ended.wants (omega (arith, l .less, most, within, length-drop (u .taken) stream))
+          (stands ∙ rw (l .need-is, lt-ltb 0 (l .views) (omega (arith, l .less))) refl)
 
   -- the claim about a whole list of calls
   pub session-claim : Claim σ Good Told fresh

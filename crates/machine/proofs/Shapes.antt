@@ -33,38 +33,38 @@ slots-lawful width some =
 pub slots-never-matter : (width : ℕ) → 0 < width → Claim (slots width) Any Any
 slots-never-matter width some = cuts-never-matter (slots width) (slots-lawful width some)
 
--- a look at one symbol: 02 stays, any other is taken; then nothing follows
+-- a look at one symbol: `kept` stays, any other is taken; then nothing follows
 abbrev lookNeed : (seen : Bool) → Need
 lookNeed false = acts 1
 lookNeed true = runs
 
-abbrev lookTakes : (view : List ℕ) → ℕ
-lookTakes [] = 0
-lookTakes (a ∷ view) = cond (eqb a 0x02) 0 1
+abbrev lookTakes : (kept : ℕ) (view : List ℕ) → ℕ
+lookTakes kept [] = 0
+lookTakes kept (a ∷ view) = cond (eqb a kept) 0 1
 
-abbrev looks : Machine ℕ Bool
-looks = record { need = lookNeed; after = λ s view. true; says = λ s view. []; takes = λ s view. lookTakes view; due = λ s. 0 }
+abbrev looks : (kept : ℕ) → Machine ℕ Bool
+looks kept = record { need = lookNeed; after = λ s view. true; says = λ s view. []; takes = λ s view. lookTakes kept view; due = λ s. 0 }
 
 look-views : (s : Bool) (views : ℕ) → lookNeed s ≡ acts views → views ≡ 1
 look-views false views e = sym (ap viewsOf e)
 look-views true views e = absurd (not-both views e)
 
-look-takes : (view : List ℕ) → lookTakes view ≤ length view
-look-takes [] = omega arith
-look-takes (a ∷ view) = one (eqb a 0x02)
+look-takes : (kept : ℕ) (view : List ℕ) → lookTakes kept view ≤ length view
+look-takes kept [] = omega arith
+look-takes kept (a ∷ view) = one (eqb a kept)
   where
     one : (t : Bool) → cond t 0 1 ≤ suc (length view)
     one true = omega arith
     one false = omega arith
 
-looks-lawful : Lawful looks Any Any
-looks-lawful =
+looks-lawful : (kept : ℕ) → Lawful (looks kept) Any Any
+looks-lawful kept =
     record {
       stays-sound = λ events s view views e l w g. tt;
-      takes-in-view = λ s view. look-takes view;
+      takes-in-view = λ s view. look-takes kept view;
       moves = λ s view views e l. stops refl;
       due-falls = λ s g e. absurd (let z : ⊥ = omega (arith, look-views s 0 e) in z);
     }
 
-pub looks-never-matter : Claim looks Any Any
-looks-never-matter = cuts-never-matter looks looks-lawful
+pub looks-never-matter : (kept : ℕ) → Claim (looks kept) Any Any
+looks-never-matter kept = cuts-never-matter (looks kept) (looks-lawful kept)

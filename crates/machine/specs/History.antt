@@ -1,10 +1,12 @@
 -- What happened on the way: the actions of a machine. No action reads them.
 -- Assumes nothing.
-use Prim.Native.Nat.{ℕ}
+use Prim.Native.Nat.{ℕ, zero, suc}
 use mathlib.Core.Path.{_≡_}
+use mathlib.Core.Bool.{cond}
 use mathlib.Core.List.{List, [], _∷_}
+use lib.Dec.{leb}
 use lib.ListN.{length, take, drop}
-use Rattle.machine.specs.Machine.{acts, Machine}
+use Rattle.machine.specs.Machine.{Need, acts, runs, Machine}
 use Rattle.machine.specs.Outcome.{Outcome, halt, acted, join}
 
 -- an action: the state in which it was made, and the symbols in view
@@ -25,3 +27,19 @@ pub data Path {A S : Type 0} (m : Machine A S) (start : S) (stream : List A) : L
 pub record Came {A S : Type 0} (m : Machine A S) (start : S) (stream : List A) (o : Outcome S) : Type 0 where
   pub events : List (Event A S)
   pub path : Path m start stream events o
+
+-- they lead somewhere
+pub record Leads {A S : Type 0} (m : Machine A S) (start : S) (stream : List A) (events : List (Event A S)) : Type 0 where
+  pub outcome : Outcome S
+  pub path : Path m start stream events outcome
+
+-- the events of at most so many actions on what is left of a stream, put before those so far; the room never ends
+unfoldable pub trace : {A S : Type 0} → Machine A S → (fuel : ℕ) → Need → S → (rest : List A) → List (Event A S) → List (Event A S)
+trace m zero need s rest events = events
+trace m (suc fuel) runs s rest events = events
+trace m (suc fuel) (acts views) s rest events =
+    let view = take views rest in
+    let next = m .after s view in
+    cond (leb views (length rest))
+    (trace m fuel (m .need next) next (drop (m .takes s view) rest) (record { state = s; view = view } ∷ events))
+    events

@@ -4,6 +4,7 @@ use Prim.Native.Nat.{ℕ, _+_, _≤_}
 use mathlib.Core.Path.{_≡_}
 use mathlib.Core.List.{List, [], map}
 use lib.ListN.{length, take, drop}
+use Rattle.machine.specs.Outcome.{Outcome}
 use Rattle.machine.specs.History.{Event, Path, Came}
 use Rattle.machine.specs.Lawful.{Every}
 use Rattle.machine.specs.Claim.{Begins}
@@ -27,6 +28,17 @@ TakesAll {A} {M} σ =
     (session : Record) (mem : M) (input : List A) (reply : List ℕ) → answerOf σ session mem input reply .report .standing ≡ 1 →
     answerOf σ session mem input reply .report .taken ≡ length input
 
+-- where the uncut definition, which gave d for the stream, has stopped: it waits for a symbol with all taken, or code runs, by what a
+-- call with no input and no room would report
+pub data Ended {A M S : Type 0} (σ : Session A M S) (stream : List A) (d : Given M) : Type 0 where
+  wants : d .taken ≡ length stream → answerOf σ (d .session) (d .memories) [] [] .report .standing ≡ 1 → Ended σ stream d
+  running : answerOf σ (d .session) (d .memories) [] [] .report .standing ≡ 3 → Ended σ stream d
+
+-- where symbols are taken one by one, the uncut definition stops nowhere else
+abbrev pub DefinitionEnds : {A M S : Type 0} (σ : Session A M S) (Good : A → Type 0) (fresh : M → S) → Type 0
+DefinitionEnds {A} {M} σ Good fresh =
+    (mem : M) (stream : List A) → Every Good stream → σ .refusal mem ≡ 0 → Ended σ stream (definitionOf σ (fresh mem) stream)
+
 -- Told: what the events on the way say of the state that they led to
 module _ {A M S : Type 0} (σ : Session A M S) (Told : List (Event A S) → S → Type 0) (start : S) (stream : List A) where
   -- g are the totals of a list of calls that were all accepted
@@ -42,13 +54,13 @@ module _ {A M S : Type 0} (σ : Session A M S) (Told : List (Event A S) → S �
     -- the next call, with room for the replies that are still missing, doesn't wait for room
     pub enough-room : (shown : ℕ) (reply : List ℕ) → definitionOf σ start stream .sent ≤ g .sent + length reply →
         Stops (answerOf σ (g .session) (g .memories) (take shown (drop (g .taken) stream)) reply)
-    -- the state that the list has come to, by actions of the machine, and what they say of it
+    -- the state that the list has come to, by actions of the machine
     pub reached : S
     pub reached-is : (g .session ≡ σ .write reached) × (g .memories ≡ σ .memories reached)
     pub reads-as : σ .read (g .session) (g .memories) ≡ sound reached
     pub history : Came (σ .machine) start stream (record { replies = g .replies; taken = g .taken; final = reached })
-    pub told : (events : List (Event A S)) →
-        Path (σ .machine) start stream events (record { replies = g .replies; taken = g .taken; final = reached }) → Told events reached
+    -- what the actions say holds wherever they lead: there, and at every state on the way
+    pub told : (events : List (Event A S)) (o : Outcome S) → Path (σ .machine) start stream events o → Told events (o .final)
 
 -- Good: the symbols of a stream
 module _ {A M S : Type 0} (σ : Session A M S) (Good : A → Type 0) (Told : List (Event A S) → S → Type 0) (fresh : M → S) where

@@ -1,2 +1,3 @@
 pub mod Theorem
 pub mod Fakes
+pub mod Naked

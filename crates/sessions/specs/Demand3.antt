@@ -1,5 +1,7 @@
 -- Demand 3 (01, "Demand 3, one claim about a whole list"): one statement for all three kinds, all memories, every stream of bytes and
 -- every list of calls, the refused ones among them. Its lines stand in machine's SessionClaim, over a session's definition:
+--   starts-fresh      a session starts at the record that is handed out for it
+--   definition-ends   the definition stops when a take finds the stream empty, or when code runs
 --   refused-lengths   where the lengths are refused, all calls are, and nothing changes
 --   no-refusal        else none is: every record on the way is sound
 --   replies-begin, taken-within, sent-within   always: joined replies are a beginning of the definition's, counts within
@@ -7,21 +9,24 @@
 --   too-few-left      the same where what is left is less than the next action needs
 --   enough-room, takes-all   a call with room for the replies waits for a byte, unless code runs; it then has taken all it was shown
 --   reached, reached-is, reads-as, history   the state that the list has come to, by actions of the flow; its record is read as it
---   told              every list of actions that leads there says `Told` of it
+--   told              of every list of actions of the flow, `Told` holds where it leads: there, and at every state on the way
 -- Assumes nothing.
 use Prim.Native.Nat.{ℕ}
+use mathlib.Core.Path.{_≡_}
 use mathlib.Core.List.{List}
 use Rattle.machine.specs.History.{Event}
 use Rattle.machine.specs.Acknowledged.{RunsExactly}
 use Rattle.machine.specs.SessionLaws.{Byte}
-use Rattle.machine.specs.SessionClaim.{TakesAll, Claim, MadeClaim}
-use Rattle.sessions.specs.Kind.{Kind, StateOf, sessionOf, freshOf, awaitsOf, NakUnchanged}
+use Rattle.machine.specs.SessionClaim.{TakesAll, DefinitionEnds, Claim, MadeClaim}
+use Rattle.sessions.specs.Kind.{Kind, MemoriesOf, StateOf, sessionOf, freshOf, freshRecordOf, awaitsOf, NakUnchanged}
 
 -- code runs exactly when the host has acknowledged a checksum, and a command NAKed before execution has changed no RAM or flash
 abbrev pub Told : (kind : Kind) → List (Event ℕ (StateOf kind)) → StateOf kind → Type 0
 Told kind events s = RunsExactly (awaitsOf kind) (sessionOf kind .machine) events s × NakUnchanged kind events s
 
 pub record ForKind (kind : Kind) : Type 0 where
+  pub starts-fresh : (mem : MemoriesOf kind) → sessionOf kind .write (freshOf kind mem) ≡ freshRecordOf kind
+  pub definition-ends : DefinitionEnds (sessionOf kind) Byte (freshOf kind)
   -- of lists of the definition's own calls
   pub defined : Claim (sessionOf kind) Byte (Told kind) (freshOf kind)
   -- of what a program's calls gave back, each as its routine promises

@@ -1,15 +1,19 @@
 -- Sessions that demand 2's definition shuts out (01, "What nobody may fake").
 -- Assumes nothing.
-use Prim.Native.Nat.{ℕ}
+use Prim.Native.Nat.{ℕ, _+_, _<_}
 use mathlib.Core.Path.{_≡_}
 use mathlib.Core.List.{List, [], _∷_}
-use lib.ListN.{length, take, replicate}
+use lib.ListN.{length, take, getD, replicate}
+use Rattle.wire.specs.Line.{soh, nak}
 use Rattle.machine.specs.Call.{call}
 use Rattle.machine.specs.Session.{Answer, sound, answerOf}
 use Rattle.machine.specs.declared.Record.{Record}
+use Rattle.command.specs.declared.opcode.Opcode.the-variants.{Erase}
+use Rattle.command.specs.Opcode.{opcodeNumber}
 use Rattle.command_execution.specs.Memories.{Memories, memories}
+use Rattle.uartboot_flow.specs.Flow.{greetingLength}
 use Rattle.uartboot_flow.specs.Fresh.{freshRecord}
-use Rattle.sessions.specs.Kind.{Kind, uartboot, MemoriesOf, StateOf, sessionOf}
+use Rattle.sessions.specs.Kind.{Kind, romP, romE, uartboot, MemoriesOf, StateOf, sessionOf, freshRecordOf}
 
 -- a session call's routine
 abbrev pub Routine : Kind → Type 0
@@ -27,6 +31,25 @@ abbrev pub AlwaysSends : (kind : Kind) → (bytes : List ℕ) → Routine kind �
 AlwaysSends kind bytes f =
     (r : Record) (mem : MemoriesOf kind) (input reply : List ℕ) → length reply ≡ 16 → f r mem input reply .report .number ≡ 0 →
     take (f r mem input reply .report .sent) (f r mem input reply .reply) ≡ bytes
+
+-- a header with these length bytes; uartboot's is that of an Erase
+abbrev pub headerOf : Kind → (low high : ℕ) → List ℕ
+headerOf romP low high = soh ∷ low ∷ high ∷ []
+headerOf romE low high = soh ∷ low ∷ high ∷ []
+headerOf uartboot low high = soh ∷ opcodeNumber Erase ∷ low ∷ high ∷ []
+
+-- how many bytes are sent before a header is taken
+abbrev pub greetingOf : Kind → ℕ
+greetingOf romP = 1
+greetingOf romE = 1
+greetingOf uartboot = greetingLength
+
+-- a fresh session answers every header with 15; kind E takes two bytes more where both length bytes are zero
+abbrev pub AlwaysNaks : (kind : Kind) → Routine kind → Type 0
+AlwaysNaks kind f =
+    (mem : MemoriesOf kind) (low high : ℕ) (reply : List ℕ) → 0 < low + high → length reply ≡ 16 →
+    f (freshRecordOf kind) mem (headerOf kind low high) reply .report .number ≡ 0 →
+    getD (f (freshRecordOf kind) mem (headerOf kind low high) reply .reply) (greetingOf kind) 0 ≡ nak
 
 -- it takes and sends nothing
 abbrev pub DoesNothing : (kind : Kind) → Routine kind → Type 0
@@ -53,6 +76,7 @@ small = memories (0x00 ∷ 0x00 ∷ []) (replicate 4096 0xFF) (replicate 64 0x00
 pub record NobodyFakes : Type 0 where
   pub no-constant-refusal : (kind : Kind) (f : Routine kind) → Keeps kind f → AlwaysRefuses kind f → ⊥
   pub no-constant-reply : (kind : Kind) (f : Routine kind) (bytes : List ℕ) → Keeps kind f → AlwaysSends kind bytes f → ⊥
+  pub no-constant-nak : (kind : Kind) (f : Routine kind) → Keeps kind f → AlwaysNaks kind f → ⊥
   pub no-idling : (kind : Kind) (f : Routine kind) → Keeps kind f → DoesNothing kind f → ⊥
   pub no-invented-counts : (kind : Kind) (f : Routine kind) → Keeps kind f → CountsAreTrue kind f
   -- of two commands in one call, the second is executed too

@@ -5,9 +5,11 @@ use mathlib.Core.Bool.{Bool}
 use mathlib.Core.List.{List}
 use Rattle.machine.specs.History.{Event}
 use Rattle.machine.specs.Session.{Session}
+use Rattle.machine.specs.declared.Record.{Record}
 use Rattle.rom_flow.specs.declared.kind.Kind.the-variants.{P, E}
 use Rattle.rom_flow.specs.Receiver as receiver
-use Rattle.rom.specs.Session.{rom}
+use Rattle.rom.specs.Record.{kindNumber}
+use Rattle.rom.specs.Session.{freshRecord, rom}
 use Rattle.rom.specs.Awaits as rom-awaits
 use Rattle.command_execution.specs.Memories.{Memories}
 use Rattle.uartboot_flow.specs.State as device
@@ -41,6 +43,12 @@ abbrev pub freshOf : (kind : Kind) → MemoriesOf kind → StateOf kind
 freshOf romP = receiver.fresh P
 freshOf romE = receiver.fresh E
 freshOf uartboot = device-fresh.fresh
+
+-- the record that is handed out for a fresh session
+abbrev pub freshRecordOf : Kind → Record
+freshRecordOf romP = freshRecord (kindNumber P)
+freshRecordOf romE = freshRecord (kindNumber E)
+freshRecordOf uartboot = device-fresh.freshRecord
 
 -- the flow takes the byte for a checksum: after the ROM's XOR, or after the CRC of a Run's payload
 abbrev pub awaitsOf : (kind : Kind) → StateOf kind → Bool

@@ -2,3 +2,4 @@ pub mod Kind
 pub mod Definition
 pub mod Demand3
 pub mod Fakes
+pub mod Naked
