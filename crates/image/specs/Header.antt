@@ -27,9 +27,15 @@ sizeAt memory offset = numberAt 4 memory (offset + 4)
 abbrev pub crcAt : (memory : List ℕ) (offset : ℕ) → ℕ
 crcAt memory offset = numberAt 4 memory (offset + 8)
 
--- the version's field of 16 bytes
+-- where the version's field begins in the header, and how many bytes it has
+abbrev pub versionPlace : ℕ
+versionPlace = 12
+
+abbrev pub versionLength : ℕ
+versionLength = 16
+
 abbrev pub versionAt : (memory : List ℕ) (offset : ℕ) → List ℕ
-versionAt memory offset = take 16 (drop (offset + 12) memory)
+versionAt memory offset = take versionLength (drop (offset + versionPlace) memory)
 
 abbrev pub encryptedAt : (memory : List ℕ) (offset : ℕ) → ℕ
 encryptedAt memory offset = getD memory (offset + 32) 0

@@ -4,7 +4,8 @@ pub mod rule;
 ghost use mathlib.Core.Path.{_≡_};
 ghost use Prim.Native.Nat.{_+_, _≤_};
 ghost use lib.ListN.{length};
-ghost use Rattle.image.specs.Header.{isMarked, versionAt, headerLength};
+ghost use Rattle.wire.specs.Part.{IsPart};
+ghost use Rattle.image.specs.Header.{isMarked, versionPlace, versionLength, headerLength};
 ghost use Rattle.image.specs.Valid.{isValid, imageAt};
 use crate::rule::Rule;
 use crate::rule::first_broken;
@@ -67,10 +68,10 @@ pub fn image_at(memory: &[u8], offset: usize) -> Image
     }
 }
 
-// The version's field in the image header at the start of a file.
+// The version's field in the image header at the start of a file, as a part of that file.
 pub fn version_of<'a>(file: &'a [u8]) -> &'a [u8]
     requires { ⌜ headerLength ≤ length (now file) ⌝ }
-    ensures { λ r. ⌜ now r ≡ versionAt (now (file .entry)) 0 ⌝ }
+    ensures { λ r. ⌜ IsPart r (file .entry) versionPlace versionLength ⌝ }
 {
     &file[12..28]
 }

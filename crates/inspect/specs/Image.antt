@@ -5,13 +5,9 @@ use Prim.Native.Nat.{ℕ, _+_}
 use mathlib.Core.List.{List}
 use mathlib.Core.Bool.{cond}
 use Rattle.image.specs.declared.rule.Rule.the-variants.{Header}
-use Rattle.image.specs.Header.{idAt, sizeAt, headerLength}
+use Rattle.image.specs.Header.{idAt, sizeAt, versionPlace, headerLength}
 use Rattle.image.specs.Rule.{ruleNumber, headerInside, firstBroken}
 use Rattle.inspect.specs.declared.image_header.ImageRead.{ImageRead}
-
--- where the version's field begins in the header
-abbrev pub versionPlace : ℕ
-versionPlace = 12
 
 -- the header does not lie in the memory
 abbrev pub unread : ImageRead

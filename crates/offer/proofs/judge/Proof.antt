@@ -92,7 +92,7 @@ wins-requires-3 c κs = search needs
 
 -- how the versions stand to each other
 versions : (c : tie.After-compare-fields) → comparedFields (versionAt (c .before .before .before .before .before .before .before .before .before .before .before .before .before .args .installed .now) 0) (versionAt (c .before .before .before .before .before .before .before .before .before .before .before .before .before .args .candidate .now) 0) ≡ c .compare-fields .result
-versions c = sym (c .compare-fields .ensures ∙ ap₂ comparedFields (c .before .before .version-of .ensures) (c .before .version-of2 .ensures))
+versions c = sym (c .compare-fields .ensures ∙ ap₂ comparedFields (c .before .before .version-of .ensures .bytes) (c .before .version-of2 .ensures .bytes))
 
 returns-3 : tie.Need-returns-3
 unfolding offerOf
