@@ -1,2 +1,3 @@
+pub mod Fakes
 pub mod Products
 pub mod Refusal

@@ -1,0 +1,41 @@
+-- The definition shuts out a stuck selector, by what it gives for two flashes.
+-- Assumes nothing.
+use Prim.Native.Nat.{ℕ}
+use native.Mathlib.Omega.{arith}
+use mathlib.Core.Path.{_≡_, refl, sym, ap, _∙_}
+use mathlib.Core.List.{List, _∷_, _++_}
+use lib.ListN.{replicate}
+use Rattle.wire.specs.Number.{numberAt}
+use Rattle.wire.specs.Range.{liesIn}
+use Rattle.wire.specs.Length.{isFlashLength}
+use Rattle.crc.specs.Register.{leaving, moved, placed, afterBit, afterBits, afterByte, after}
+use Rattle.crc.specs.Crc.{crcOf}
+use Rattle.image.specs.Valid.{isValid, imageAt}
+use Rattle.slot.specs.declared.Selected.{Selected}
+use Rattle.slot.specs.Slot.{productInside, productMarked, starts, selectOf}
+use Rattle.slot.specs.Fakes.{Routine, Keeps, StuckOn, NobodyIsStuck}
+
+-- a valid image with an id: version and time are 00, and so is its one byte of code, whose CRC-32 is D202EF8D
+abbrev imageWith : (id : ℕ) → List ℕ
+imageWith id = 0x70 ∷ 0x51 ∷ 0xAA ∷ id ∷ 0x01 ∷ 0x00 ∷ 0x00 ∷ 0x00 ∷ 0x8D ∷ 0xEF ∷ 0x02 ∷ 0xD2 ∷ replicate 53 0x00
+
+-- a whole flash of 4,096 bytes: a product header that names the offsets 12 and 77, two valid images there, and FF behind them
+abbrev flashWith : (id id′ : ℕ) → List ℕ
+flashWith id id′ =
+    0x70 ∷ 0x52 ∷ 0x00 ∷ 0x00 ∷ 0x0C ∷ 0x00 ∷ 0x00 ∷ 0x00 ∷ 0x4D ∷ 0x00 ∷ 0x00 ∷ 0x00
+    ∷ imageWith id ++ imageWith id′ ++ replicate 3954 0xFF
+
+both-start : (selectOf (flashWith 10 9) 0 ≡ starts 1) × (selectOf (flashWith 9 10) 0 ≡ starts 2)
+unfolding numberAt liesIn isFlashLength leaving moved placed afterBit afterBits afterByte after crcOf isValid imageAt productInside productMarked selectOf
+both-start = (refl, refl)
+
+module _ (f : Routine) (slot : ℕ) (keeps : Keeps f) (stuck : StuckOn slot f) where
+  -- where the definition names a slot, it is the one that the routine is stuck on
+  named : (flash : List ℕ) (offset given : ℕ) → selectOf flash offset ≡ starts given → given ≡ slot
+  named flash offset given e =
+      let same = keeps flash offset ∙ e in
+      sym (ap (λ (s : Selected). s .slot) same) ∙ stuck flash offset (ap (λ (s : Selected). s .number) same)
+
+pub nobody-is-stuck : NobodyIsStuck
+nobody-is-stuck f slot keeps stuck =
+    omega (arith, named f slot keeps stuck (flashWith 10 9) 0 1 (both-start .0), named f slot keeps stuck (flashWith 9 10) 0 2 (both-start .1))
