@@ -9,16 +9,20 @@ use Rattle.crc.specs.Rule.{rule16, rule32}
 use Rattle.crc.specs.Crc.{crcOf}
 use Rattle.version.specs.Rank.{rankOf}
 use Rattle.version.specs.Order.{orderOf}
-use Rattle.image.specs.declared.Image.the-variants.{Valid}
-use Rattle.slot.specs.Slot.{chosen}
+use Rattle.slot.specs.Slot.{selectOf}
+use Rattle.headers.specs.ProductHeader.{productHeaderOf}
+use Rattle.headers.specs.ImageHeader.{imageHeaderOf}
 use Rattle.machine.specs.Uncut.{uncut}
 use Rattle.rom_flow.specs.declared.kind.Kind.the-variants.{P, E}
 use Rattle.rom_flow.specs.declared.step.Step.the-variants.{TakeCode, Running}
 use Rattle.rom_flow.specs.Flow.{start}
 use Rattle.rom_flow.specs.Receiver.{fresh, receiver}
 use Rattle.rom.specs.Record.{written}
-use Rattle.memory.specs.Flash.{burnt, blank, erased}
+use Rattle.memory.specs.Flash.{burnt, blank}
+use Rattle.command.specs.declared.opcode.Opcode.the-variants.{Erase}
+use Rattle.command_execution.specs.declared.Ending.the-variants.{Silent}
 use Rattle.command_execution.specs.Memories.{Memories, memories}
+use Rattle.command_execution.specs.Execution.{executed}
 use Rattle.uartboot_flow.specs.declared.step.Step.the-variants.{Header}
 use Rattle.uartboot_flow.specs.declared.step.HeaderStep.the-variants as uartboot-step
 use Rattle.uartboot_record.specs.Record as uartboot-record
@@ -68,7 +72,18 @@ wholeRam = replicate 131072 0
 abbrev device : Memories
 device = memories (0x00 ∷ []) (replicate 4096 0xFF) (replicate 64 0x00)
 
--- the images of the ids have one byte of code each
+-- an image with an id, version 1.9 and one byte of code, 65 bytes in all
+abbrev imageWith : (id : ℕ) → List ℕ
+imageWith id = imageHeaderOf (0x00 ∷ []) id v1-9 0 .bytes ++ 0x00 ∷ []
+
+-- a flash of 4,096 bytes: a product header at 0 that names the offsets 12 and 77, an image with each id there, and FF behind them
+abbrev flashWith : (id id′ : ℕ) → List ℕ
+flashWith id id′ = productHeaderOf 12 77 .bytes ++ imageWith id ++ imageWith id′ ++ replicate 3954 0xFF
+
+-- a device with a flash, and in its work buffer the 8 bytes of an Erase's payload: offset 4,095, size 2
+abbrev erasing : (flash : List ℕ) → Memories
+erasing flash = memories (0x00 ∷ []) flash (0xFF ∷ 0x0F ∷ 0x00 ∷ 0x00 ∷ 0x02 ∷ 0x00 ∷ 0x00 ∷ 0x00 ∷ replicate 56 0x00)
+
 abbrev pub provedSet : List Figure
 provedSet =
     (orderOf v1-9 v1-10 is record { number = 0; order = negsuc 0 })
@@ -76,9 +91,9 @@ provedSet =
     ∷ (rankOf v01-2 is record { number = 61; rank = 0 ∷ 0 ∷ 0 ∷ 0 ∷ [] })
     ∷ (rankOf (replicate 16 0) is record { number = 61; rank = 0 ∷ 0 ∷ 0 ∷ 0 ∷ [] })
     ∷ (rankOf v65535-65535-6553 is record { number = 0; rank = 65535 ∷ 65535 ∷ 6553 ∷ 0 ∷ [] })
-    ∷ (chosen (Valid 9 1) (Valid 10 1) is record { number = 0; slot = 2 })
-    ∷ (chosen (Valid 10 1) (Valid 9 1) is record { number = 0; slot = 1 })
-    ∷ (chosen (Valid 7 1) (Valid 7 1) is record { number = 0; slot = 1 })
+    ∷ (selectOf (flashWith 9 10) 0 is record { number = 0; slot = 2 })
+    ∷ (selectOf (flashWith 10 9) 0 is record { number = 0; slot = 1 })
+    ∷ (selectOf (flashWith 7 7) 0 is record { number = 0; slot = 1 })
     ∷ (uncut receiver (fresh E wholeRam) (0x01 ∷ 0x00 ∷ 0x00 ∷ 0x00 ∷ 0x00 ∷ []) .final .step is TakeCode 65536 0)
     ∷ (uncut receiver (fresh E wholeRam) (0x01 ∷ 0x00 ∷ 0x00 ∷ 0x01 ∷ 0x00 ∷ []) .final .step is TakeCode 65537 0)
     ∷ (definition romP (replicate 4 0) (0x01 ∷ 0x03 ∷ 0x00 ∷ 0x11 ∷ 0x22 ∷ 0x44 ∷ 0x06 ∷ []) is record {
@@ -95,7 +110,7 @@ provedSet =
       session = uartboot-record.written (Header uartboot-step.TakeSoh) 12;
       memories = device;
     })
-    ∷ (erased 4095 2 (replicate 12288 0x00) is (blank 8192 ++ replicate 4096 0x00))
+    ∷ (executed Erase 8 (erasing (replicate 12288 0x00)) is record { ending = Silent; after = erasing (blank 8192 ++ replicate 4096 0x00) })
     ∷ (burnt (0x3C ∷ []) (0xF0 ∷ []) is (0x30 ∷ []))
     ∷ (crcOf rule16 digits is 0x29B1)
     ∷ (crcOf rule32 digits is 0xCBF4_3926)
