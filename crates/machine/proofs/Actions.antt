@@ -185,12 +185,9 @@ module _ {A S : Type 0} (m : Machine A S) where
         go runs e = refl
         go (acts zero) e = refl
         go (acts (suc views)) e =
-            let view = take (suc views) stream in
-            let d = drain m (m .after s view) in
             cond-same _ _ _ _ (λ t.
             let shown : suc views ≤ length stream = leb-true _ _ t in
-            ap (λ o. join (acted (m .says s view) (m .takes s view) (m .after s view)) (join d o))
-            (feed-moved k l same s stream views e shown (omega arith) (λ p. omega (arith, shown))))
+            rw (feed-moved k l same s stream views e shown (omega arith) (λ p. omega (arith, shown))) refl)
 
     feed-fuel : (k l : ℕ) → SameFeed k l
     unfolding SameFeed
