@@ -32,8 +32,8 @@ sectorsOf offset size = sectorOf (offset + size - 1) - sectorOf offset + 1
 unfoldable pub erased : (offset size : ℕ) (flash : List ℕ) → List ℕ
 erased offset size flash = changedFrom (sectorOf offset * sectorLength) (laid (blank (sectorsOf offset size * sectorLength))) flash
 
--- an area of 1 byte or more that lies in a flash of `length` bytes
-pub record Area (offset size length : ℕ) : Type 0 where
+-- an area of 1 byte or more that lies in a flash of `total` bytes
+pub record Area (offset size total : ℕ) : Type 0 where
   pub some : 0 < size
-  pub inside : offset + size ≤ length
-  pub flash-length : isFlashLength length ≡ true
+  pub inside : offset + size ≤ total
+  pub flash-length : isFlashLength total ≡ true

@@ -5,15 +5,15 @@ use mathlib.Core.Bool.{Bool, _&&_}
 use lib.Dec.{eqb, leb}
 
 -- from `least` to `most`
-unfoldable pub isBetween : (least most length : ℕ) → Bool
-isBetween least most length = leb least length && leb length most
+unfoldable pub isBetween : (least most size : ℕ) → Bool
+isBetween least most size = leb least size && leb size most
 
 abbrev pub largestRam : ℕ
 largestRam = 131072
 
 -- 1 to 131,072 bytes
 abbrev pub isRamLength : ℕ → Bool
-isRamLength length = isBetween 1 largestRam length
+isRamLength size = isBetween 1 largestRam size
 
 -- the number given for RAM of any other length
 abbrev pub badRam : ℕ
@@ -28,7 +28,7 @@ largestFlash = 4194304
 
 -- a non-zero multiple of 4,096, at most 4,194,304
 unfoldable pub isFlashLength : ℕ → Bool
-isFlashLength length = leb 1 length && (eqb (length % sectorLength) 0 && leb length largestFlash)
+isFlashLength size = leb 1 size && (eqb (size % sectorLength) 0 && leb size largestFlash)
 
 -- the number given for flash of any other length
 abbrev pub badFlash : ℕ
@@ -42,7 +42,7 @@ largestWork = 65535
 
 -- 64 to 65,535 bytes
 abbrev pub isWorkLength : ℕ → Bool
-isWorkLength length = isBetween smallestWork largestWork length
+isWorkLength size = isBetween smallestWork largestWork size
 
 -- the number given for a work buffer of any other length
 abbrev pub badWork : ℕ

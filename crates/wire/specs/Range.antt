@@ -7,10 +7,10 @@ use lib.Dec.{leb}
 use Rattle.wire.specs.declared.range.Place.{Place}
 use Rattle.wire.specs.declared.range.Place.the-variants.{Inside, Outside}
 
--- `count` bytes from the address `start` on lie wholly in the `length` bytes from the address `base` on
-unfoldable pub liesIn : (start count base length : ℕ) → Bool
-liesIn start count base length = leb base start && leb (start + count) (base + length)
+-- `count` bytes from the address `start` on lie wholly in the `size` bytes from the address `base` on
+unfoldable pub liesIn : (start count base size : ℕ) → Bool
+liesIn start count base size = leb base start && leb (start + count) (base + size)
 
 -- where such a range begins in the memory
-unfoldable pub placeIn : (start count base length : ℕ) → Place
-placeIn start count base length = cond (liesIn start count base length) (Inside (start - base)) Outside
+unfoldable pub placeIn : (start count base size : ℕ) → Place
+placeIn start count base size = cond (liesIn start count base size) (Inside (start - base)) Outside

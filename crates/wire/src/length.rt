@@ -24,38 +24,38 @@ const LARGEST_WORK: usize = 65_535;
 // The number given for a work buffer of a length that it may not have.
 pub const BAD_WORK: u32 = 1;
 
-fn is_between(length: usize, least: usize, most: usize) -> bool
-    ensures { λ r. ⌜ r ≡ isBetween least most length ⌝ }
+fn is_between(size: usize, least: usize, most: usize) -> bool
+    ensures { λ r. ⌜ r ≡ isBetween least most size ⌝ }
 {
-    if length < least {
+    if size < least {
         return false;
     }
-    length <= most
+    size <= most
 }
 
 // Whether RAM may have this length.
-pub fn is_ram_length(length: usize) -> bool
-    ensures { λ r. ⌜ r ≡ isRamLength length ⌝ }
+pub fn is_ram_length(size: usize) -> bool
+    ensures { λ r. ⌜ r ≡ isRamLength size ⌝ }
 {
-    is_between(length, SMALLEST_RAM, LARGEST_RAM)
+    is_between(size, SMALLEST_RAM, LARGEST_RAM)
 }
 
 // Whether flash may have this length.
-pub fn is_flash_length(length: usize) -> bool
-    ensures { λ r. ⌜ r ≡ isFlashLength length ⌝ }
+pub fn is_flash_length(size: usize) -> bool
+    ensures { λ r. ⌜ r ≡ isFlashLength size ⌝ }
 {
-    if length == 0 {
+    if size == 0 {
         return false;
     }
-    if length % SECTOR != 0 {
+    if size % SECTOR != 0 {
         return false;
     }
-    length <= LARGEST_FLASH
+    size <= LARGEST_FLASH
 }
 
 // Whether a work buffer may have this length.
-pub fn is_work_length(length: usize) -> bool
-    ensures { λ r. ⌜ r ≡ isWorkLength length ⌝ }
+pub fn is_work_length(size: usize) -> bool
+    ensures { λ r. ⌜ r ≡ isWorkLength size ⌝ }
 {
-    is_between(length, SMALLEST_WORK, LARGEST_WORK)
+    is_between(size, SMALLEST_WORK, LARGEST_WORK)
 }

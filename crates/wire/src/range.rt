@@ -10,19 +10,19 @@ pub enum Place {
     Outside,
 }
 
-// Judges `count` bytes from the address `start` on, in a memory of `length` bytes whose first address is `base`. Only differences
+// Judges `count` bytes from the address `start` on, in a memory of `size` bytes whose first address is `base`. Only differences
 // are made, so nothing can wrap.
-pub fn place_in(start: usize, count: usize, base: usize, length: usize) -> Place
-    ensures { λ r. ⌜ r ≡ placeIn start count base length ⌝ }
+pub fn place_in(start: usize, count: usize, base: usize, size: usize) -> Place
+    ensures { λ r. ⌜ r ≡ placeIn start count base size ⌝ }
 {
     if start < base {
         return Place::Outside;
     }
     let place = start - base;
-    if length < place {
+    if size < place {
         return Place::Outside;
     }
-    if length - place < count {
+    if size - place < count {
         return Place::Outside;
     }
     Place::Inside(place)

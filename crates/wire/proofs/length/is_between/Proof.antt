@@ -10,13 +10,13 @@ use Rattle.wire.proofs.length.is_between.Tie as tie
 returns : tie.Need-returns
 unfolding isBetween
 returns c =
-    let h : c .before .args .length < c .before .args .least = omega arith in
+    let h : c .before .args .size < c .before .args .least = omega arith in
     simp (lt-leb _ _ h)
 
 returns-2 : tie.Need-returns-2
 unfolding isBetween
 returns-2 c =
-    let h : c .before .args .least ≤ c .before .args .length = omega arith in
+    let h : c .before .args .least ≤ c .before .args .size = omega arith in
     simp (le-leb _ _ h)
 
 pub is-between-spec : {M : Type 1} → statement M

@@ -11,7 +11,7 @@ use Rattle.wire.proofs.length.is_flash_length.Tie as tie
 returns : tie.Need-returns
 unfolding isFlashLength
 returns c =
-    let h : c .before .args .length < 1 = omega arith in
+    let h : c .before .args .size < 1 = omega arith in
     simp (lt-leb _ _ h)
 
 returns-2 : tie.Need-returns-2
@@ -21,7 +21,7 @@ returns-2 c = simp (ne-eqb _ _ (c .if2 .taken), and-false)
 returns-3 : tie.Need-returns-3
 unfolding isFlashLength
 returns-3 c =
-    let h : 1 ≤ c .before .before .args .length = omega arith in
+    let h : 1 ≤ c .before .before .args .size = omega arith in
     simp (le-leb _ _ h, eq-eqb _ _ (c .if2 .left))
 
 pub is-flash-length-spec : {M : Type 1} → statement M
