@@ -33,16 +33,16 @@ opcodeOf number =
     Unknown))))))))
 
 -- the payload lengths that an opcode has: that of its numbers, and for Write and Direct write data of 1 byte or more after them
-abbrev pub hasLength : Opcode → (length : ℕ) → Bool
-hasLength Write length = leb 5 length
-hasLength Read length = eqb length 6
-hasLength Copy length = eqb length 10
-hasLength Erase length = eqb length 8
-hasLength Run length = eqb length 4
-hasLength ReadQspi length = eqb length 6
-hasLength Version length = eqb length 0
-hasLength ChipErase length = eqb length 0
-hasLength DirectWrite length = leb 6 length
+abbrev pub hasLength : Opcode → (count : ℕ) → Bool
+hasLength Write count = leb 5 count
+hasLength Read count = eqb count 6
+hasLength Copy count = eqb count 10
+hasLength Erase count = eqb count 8
+hasLength Run count = eqb count 4
+hasLength ReadQspi count = eqb count 6
+hasLength Version count = eqb count 0
+hasLength ChipErase count = eqb count 0
+hasLength DirectWrite count = leb 6 count
 
 abbrev pub hasAnswer : Opcode → Bool
 hasAnswer Write = false

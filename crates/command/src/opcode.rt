@@ -56,19 +56,19 @@ pub fn number_of(opcode: Opcode) -> u32
 }
 
 // Whether an opcode has payloads of this length.
-pub fn has_length(opcode: Opcode, length: usize) -> bool
-    ensures { λ r. ⌜ r ≡ hasLength opcode length ⌝ }
+pub fn has_length(opcode: Opcode, count: usize) -> bool
+    ensures { λ r. ⌜ r ≡ hasLength opcode count ⌝ }
 {
     match opcode {
-        Opcode::Write => 5 <= length,
-        Opcode::Read => length == 6,
-        Opcode::Copy => length == 10,
-        Opcode::Erase => length == 8,
-        Opcode::Run => length == 4,
-        Opcode::ReadQspi => length == 6,
-        Opcode::Version => length == 0,
-        Opcode::ChipErase => length == 0,
-        Opcode::DirectWrite => 6 <= length,
+        Opcode::Write => 5 <= count,
+        Opcode::Read => count == 6,
+        Opcode::Copy => count == 10,
+        Opcode::Erase => count == 8,
+        Opcode::Run => count == 4,
+        Opcode::ReadQspi => count == 6,
+        Opcode::Version => count == 0,
+        Opcode::ChipErase => count == 0,
+        Opcode::DirectWrite => 6 <= count,
     }
 }
 

@@ -13,27 +13,27 @@ use Rattle.uartboot_flow.specs.declared.ask.Ask.the-variants.{Take, Send
 use Rattle.uartboot_flow.specs.declared.ask.Taking.the-variants as taking
 use Rattle.uartboot_flow.specs.declared.ask.Sending.the-variants as sending
 
-abbrev pub askCommand : Opcode → (length : ℕ) → CommandStep → Ask
-askCommand opcode length SendAck = Send (sending.Acceptance opcode length)
-askCommand opcode length (TakePayload place) = Take (taking.Payload opcode length place)
-askCommand opcode length SendPayloadAck = Send sending.Byte
-askCommand opcode length SendCrcLow = Send (sending.Crc opcode length)
-askCommand opcode length SendCrcHigh = Send sending.Byte
-askCommand opcode length TakeGo = Take (taking.Go opcode length)
+abbrev pub askCommand : Opcode → (size : ℕ) → CommandStep → Ask
+askCommand opcode size SendAck = Send (sending.Acceptance opcode size)
+askCommand opcode size (TakePayload place) = Take (taking.Payload opcode size place)
+askCommand opcode size SendPayloadAck = Send sending.Byte
+askCommand opcode size SendCrcLow = Send (sending.Crc opcode size)
+askCommand opcode size SendCrcHigh = Send sending.Byte
+askCommand opcode size TakeGo = Take (taking.Go opcode size)
 
-abbrev pub askAnswer : Opcode → (length : ℕ) → AnswerStep → Ask
-askAnswer opcode length a.SendLengthLow = Send sending.Byte
-askAnswer opcode length a.SendLengthHigh = Send sending.Byte
-askAnswer opcode length a.TakeGo = Take taking.Byte
-askAnswer opcode length (a.SendAnswer place) = Send (sending.Answer opcode length place)
-askAnswer opcode length a.TakeCrcLow = Take taking.Byte
-askAnswer opcode length (a.TakeCrcHigh low) = Take taking.Byte
-askAnswer opcode length a.SendAck = Send sending.Byte
+abbrev pub askAnswer : Opcode → (size : ℕ) → AnswerStep → Ask
+askAnswer opcode size a.SendLengthLow = Send sending.Byte
+askAnswer opcode size a.SendLengthHigh = Send sending.Byte
+askAnswer opcode size a.TakeGo = Take taking.Byte
+askAnswer opcode size (a.SendAnswer place) = Send (sending.Answer opcode size place)
+askAnswer opcode size a.TakeCrcLow = Take taking.Byte
+askAnswer opcode size (a.TakeCrcHigh low) = Take taking.Byte
+askAnswer opcode size a.SendAck = Send sending.Byte
 
 abbrev pub askOf : Step → Ask
 askOf (Greeting place) = Send sending.Byte
 askOf (Header step) = Take taking.Byte
-askOf (Command opcode length step) = askCommand opcode length step
-askOf (Answer opcode length step) = askAnswer opcode length step
+askOf (Command opcode size step) = askCommand opcode size step
+askOf (Answer opcode size step) = askAnswer opcode size step
 askOf Refusal = Send sending.Byte
 askOf (Running address) = Halt

@@ -22,32 +22,32 @@ use Rattle.uartboot_flow.specs.Flow.{greetingLength, does}
 -- after an execution that ended so: the greeting, an answer's length, nothing, or 15 and the greeting
 abbrev pub dueBehind : Ending → ℕ
 dueBehind Silent = greetingLength
-dueBehind (Answers count) = 2
+dueBehind (Answers size) = 2
 dueBehind (Runs address) = 0
 dueBehind (Failed why) = suc greetingLength
 
-abbrev pub dueCommand : Memories → Opcode → (length : ℕ) → CommandStep → ℕ
-dueCommand m opcode length SendAck = suc (cond (eqb length 0) (dueBehind (executed opcode length m .ending)) 0)
-dueCommand m opcode length (TakePayload place) = 0
-dueCommand m opcode length SendPayloadAck = 3
-dueCommand m opcode length SendCrcLow = 2
-dueCommand m opcode length SendCrcHigh = 1
-dueCommand m opcode length TakeGo = 0
+abbrev pub dueCommand : Memories → Opcode → (size : ℕ) → CommandStep → ℕ
+dueCommand m opcode size SendAck = suc (cond (eqb size 0) (dueBehind (executed opcode size m .ending)) 0)
+dueCommand m opcode size (TakePayload place) = 0
+dueCommand m opcode size SendPayloadAck = 3
+dueCommand m opcode size SendCrcLow = 2
+dueCommand m opcode size SendCrcHigh = 1
+dueCommand m opcode size TakeGo = 0
 
-abbrev pub dueAnswer : (length : ℕ) → AnswerStep → ℕ
-dueAnswer length a.SendLengthLow = 2
-dueAnswer length a.SendLengthHigh = 1
-dueAnswer length a.TakeGo = 0
-dueAnswer length (a.SendAnswer place) = length - place
-dueAnswer length a.TakeCrcLow = 0
-dueAnswer length (a.TakeCrcHigh low) = 0
-dueAnswer length a.SendAck = suc greetingLength
+abbrev pub dueAnswer : (size : ℕ) → AnswerStep → ℕ
+dueAnswer size a.SendLengthLow = 2
+dueAnswer size a.SendLengthHigh = 1
+dueAnswer size a.TakeGo = 0
+dueAnswer size (a.SendAnswer place) = size - place
+dueAnswer size a.TakeCrcLow = 0
+dueAnswer size (a.TakeCrcHigh low) = 0
+dueAnswer size a.SendAck = suc greetingLength
 
 abbrev pub dueAt : Memories → Step → ℕ
 dueAt m (Greeting place) = greetingLength - place
 dueAt m (Header step) = 0
-dueAt m (Command opcode length step) = dueCommand m opcode length step
-dueAt m (Answer opcode length step) = dueAnswer length step
+dueAt m (Command opcode size step) = dueCommand m opcode size step
+dueAt m (Answer opcode size step) = dueAnswer size step
 dueAt m Refusal = suc greetingLength
 dueAt m (Running address) = 0
 

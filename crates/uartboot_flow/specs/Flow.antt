@@ -64,7 +64,7 @@ first = Greeting 0
 -- after step 3: without an answer step 1 follows, with an answer step 4; code runs; a failure sends 15
 abbrev pub ends : (reason : ℕ) → Opcode → Ending → Memories → State
 ends reason opcode Silent m = state first reason m
-ends reason opcode (Answers count) m = state (Answer opcode count a.SendLengthLow) reason m
+ends reason opcode (Answers size) m = state (Answer opcode size a.SendLengthLow) reason m
 ends reason opcode (Runs address) m = state (Running address) reason m
 ends reason opcode (Failed why) m = state Refusal why m
 
@@ -81,19 +81,19 @@ module _ (reason : ℕ) (m : Memories) where
   abbrev pub abandons : State
   abandons = state first notAcked m
 
-  abbrev pub executes : Opcode → (length : ℕ) → State
-  executes opcode length = let e = executed opcode length m in ends reason opcode (e .ending) (e .after)
+  abbrev pub executes : Opcode → (size : ℕ) → State
+  executes opcode size = let e = executed opcode size m in ends reason opcode (e .ending) (e .after)
 
   -- step 1: the greeting; then bytes dropped until 01, opcode, length LSB, MSB; 11, 12, 13
   abbrev pub greets : (place : ℕ) → Does ℕ State
   greets place = sends (greeting place) (goes (cond (ltb (place + 1) greetingLength) (Greeting (place + 1)) (Header TakeSoh)))
 
-  abbrev pub headed : Lookup → (count : ℕ) → State
-  headed Unknown count = refuses unknownOpcode
-  headed (Known opcode) count =
-      cond (not (hasLength opcode count)) (refuses badLength)
-      (cond (ltb (length (m .work)) count) (refuses longPayload)
-      (goes (Command opcode count SendAck)))
+  abbrev pub headed : Lookup → (size : ℕ) → State
+  headed Unknown size = refuses unknownOpcode
+  headed (Known opcode) size =
+      cond (not (hasLength opcode size)) (refuses badLength)
+      (cond (ltb (length (m .work)) size) (refuses longPayload)
+      (goes (Command opcode size SendAck)))
 
   abbrev pub header : HeaderStep → Does ℕ State
   header TakeSoh = takes (λ byte. goes (Header (cond (eqb byte soh) TakeOpcode TakeSoh)))
@@ -102,54 +102,54 @@ module _ (reason : ℕ) (m : Memories) where
   header (TakeHigh opcode low) = takes (λ byte. headed (opcodeOf opcode) (low + 256 * byte))
 
   -- step 2: `count` of the payload's bytes are in; after the last one it is checked
-  abbrev pub checkedWith : (why : ℕ) → Opcode → (length : ℕ) → State
-  checkedWith why opcode length = cond (eqb why 0) (goes (Command opcode length SendPayloadAck)) (refuses why)
+  abbrev pub checkedWith : (why : ℕ) → Opcode → (size : ℕ) → State
+  checkedWith why opcode size = cond (eqb why 0) (goes (Command opcode size SendPayloadAck)) (refuses why)
 
-  abbrev pub arrived : Opcode → (length count : ℕ) → State
-  arrived opcode length count =
-      cond (ltb count length) (goes (Command opcode length (TakePayload count)))
-      (checkedWith (checked (commandOf opcode length (m .work)) m) opcode length)
+  abbrev pub arrived : Opcode → (size count : ℕ) → State
+  arrived opcode size count =
+      cond (ltb count size) (goes (Command opcode size (TakePayload count)))
+      (checkedWith (checked (commandOf opcode size (m .work)) m) opcode size)
 
 -- the payload's byte stored at its place
 abbrev pub stored : (place byte : ℕ) → Memories → Memories
 stored place byte m = memories (m .ram) (m .flash) (set (m .work) place byte)
 
 -- `count` of an answer's bytes are sent
-abbrev pub showed : Opcode → (length count : ℕ) → Step
-showed opcode length count = Answer opcode length (cond (ltb count length) (a.SendAnswer count) a.TakeCrcLow)
+abbrev pub showed : Opcode → (size count : ℕ) → Step
+showed opcode size count = Answer opcode size (cond (ltb count size) (a.SendAnswer count) a.TakeCrcLow)
 
 module _ (reason : ℕ) (m : Memories) where
   -- the header's 06 and step 2; step 3 follows the 06 of a command without payload, and else the host's 06
-  abbrev pub command : Opcode → (length : ℕ) → CommandStep → Does ℕ State
-  command opcode length SendAck =
-      sends ack (cond (eqb length 0) (executes reason m opcode length) (goes reason m (Command opcode length (TakePayload 0))))
-  command opcode length (TakePayload place) = takes (λ byte. arrived reason (stored place byte m) opcode length (place + 1))
-  command opcode length SendPayloadAck = sends ack (goes reason m (Command opcode length SendCrcLow))
-  command opcode length SendCrcLow = sends (crc16 length (m .work) % 256) (goes reason m (Command opcode length SendCrcHigh))
-  command opcode length SendCrcHigh = sends (crc16 length (m .work) / 256) (goes reason m (Command opcode length TakeGo))
-  command opcode length TakeGo = takes (λ byte. cond (eqb byte ack) (executes reason m opcode length) (abandons reason m))
+  abbrev pub command : Opcode → (size : ℕ) → CommandStep → Does ℕ State
+  command opcode size SendAck =
+      sends ack (cond (eqb size 0) (executes reason m opcode size) (goes reason m (Command opcode size (TakePayload 0))))
+  command opcode size (TakePayload place) = takes (λ byte. arrived reason (stored place byte m) opcode size (place + 1))
+  command opcode size SendPayloadAck = sends ack (goes reason m (Command opcode size SendCrcLow))
+  command opcode size SendCrcLow = sends (crc16 size (m .work) % 256) (goes reason m (Command opcode size SendCrcHigh))
+  command opcode size SendCrcHigh = sends (crc16 size (m .work) / 256) (goes reason m (Command opcode size TakeGo))
+  command opcode size TakeGo = takes (λ byte. cond (eqb byte ack) (executes reason m opcode size) (abandons reason m))
 
   -- step 4, at its end: the host's CRC is compared with the answer's
-  abbrev pub hosted : Opcode → (length crc : ℕ) → State
-  hosted opcode length crc =
-      cond (eqb crc (crc16 length (m .work))) (goes reason m (Answer opcode length a.SendAck)) (refuses reason m crcDiffers)
+  abbrev pub hosted : Opcode → (size crc : ℕ) → State
+  hosted opcode size crc =
+      cond (eqb crc (crc16 size (m .work))) (goes reason m (Answer opcode size a.SendAck)) (refuses reason m crcDiffers)
 
   -- step 4
-  abbrev pub answer : Opcode → (length : ℕ) → AnswerStep → Does ℕ State
-  answer opcode length a.SendLengthLow = sends (length % 256) (goes reason m (Answer opcode length a.SendLengthHigh))
-  answer opcode length a.SendLengthHigh = sends (length / 256) (goes reason m (Answer opcode length a.TakeGo))
-  answer opcode length a.TakeGo = takes (λ byte. cond (eqb byte ack) (goes reason m (Answer opcode length (a.SendAnswer 0))) (abandons reason m))
-  answer opcode length (a.SendAnswer place) = sends (getD (m .work) place 0) (goes reason m (showed opcode length (place + 1)))
-  answer opcode length a.TakeCrcLow = takes (λ byte. goes reason m (Answer opcode length (a.TakeCrcHigh byte)))
-  answer opcode length (a.TakeCrcHigh low) = takes (λ byte. hosted opcode length (low + 256 * byte))
-  answer opcode length a.SendAck = sends ack (goes reason m first)
+  abbrev pub answer : Opcode → (size : ℕ) → AnswerStep → Does ℕ State
+  answer opcode size a.SendLengthLow = sends (size % 256) (goes reason m (Answer opcode size a.SendLengthHigh))
+  answer opcode size a.SendLengthHigh = sends (size / 256) (goes reason m (Answer opcode size a.TakeGo))
+  answer opcode size a.TakeGo = takes (λ byte. cond (eqb byte ack) (goes reason m (Answer opcode size (a.SendAnswer 0))) (abandons reason m))
+  answer opcode size (a.SendAnswer place) = sends (getD (m .work) place 0) (goes reason m (showed opcode size (place + 1)))
+  answer opcode size a.TakeCrcLow = takes (λ byte. goes reason m (Answer opcode size (a.TakeCrcHigh byte)))
+  answer opcode size (a.TakeCrcHigh low) = takes (λ byte. hosted opcode size (low + 256 * byte))
+  answer opcode size a.SendAck = sends ack (goes reason m first)
 
   -- step 5: every 15 also leads to step 1
   abbrev pub doesAt : Step → Does ℕ State
   doesAt (Greeting place) = greets reason m place
   doesAt (Header step) = header reason m step
-  doesAt (Command opcode length step) = command opcode length step
-  doesAt (Answer opcode length step) = answer opcode length step
+  doesAt (Command opcode size step) = command opcode size step
+  doesAt (Answer opcode size step) = answer opcode size step
   doesAt Refusal = sends nak (goes reason m first)
   doesAt (Running address) = runs
 

@@ -18,29 +18,29 @@ use Rattle.uartboot_flow.specs.State.{State}
 use Rattle.uartboot_flow.specs.Flow.{greetingLength}
 
 -- only the header's 06 has commands without payload; a payload's next byte lies in it
-abbrev pub SoundCommand : (length : ℕ) → CommandStep → Type 0
-SoundCommand length SendAck = Unit {0}
-SoundCommand length (TakePayload place) = place < length
-SoundCommand length SendPayloadAck = 0 < length
-SoundCommand length SendCrcLow = 0 < length
-SoundCommand length SendCrcHigh = 0 < length
-SoundCommand length TakeGo = 0 < length
+abbrev pub SoundCommand : (size : ℕ) → CommandStep → Type 0
+SoundCommand size SendAck = Unit {0}
+SoundCommand size (TakePayload place) = place < size
+SoundCommand size SendPayloadAck = 0 < size
+SoundCommand size SendCrcLow = 0 < size
+SoundCommand size SendCrcHigh = 0 < size
+SoundCommand size TakeGo = 0 < size
 
-abbrev pub SoundAnswer : (length : ℕ) → AnswerStep → Type 0
-SoundAnswer length a.SendLengthLow = Unit {0}
-SoundAnswer length a.SendLengthHigh = Unit {0}
-SoundAnswer length a.TakeGo = Unit {0}
-SoundAnswer length (a.SendAnswer place) = place < length
-SoundAnswer length a.TakeCrcLow = Unit {0}
-SoundAnswer length (a.TakeCrcHigh low) = Unit {0}
-SoundAnswer length a.SendAck = Unit {0}
+abbrev pub SoundAnswer : (size : ℕ) → AnswerStep → Type 0
+SoundAnswer size a.SendLengthLow = Unit {0}
+SoundAnswer size a.SendLengthHigh = Unit {0}
+SoundAnswer size a.TakeGo = Unit {0}
+SoundAnswer size (a.SendAnswer place) = place < size
+SoundAnswer size a.TakeCrcLow = Unit {0}
+SoundAnswer size (a.TakeCrcHigh low) = Unit {0}
+SoundAnswer size a.SendAck = Unit {0}
 
 -- with so many bytes of RAM, and of work buffer
 abbrev pub SoundStep : (ram work : ℕ) → Step → Type 0
 SoundStep ram work (Greeting place) = place < greetingLength
 SoundStep ram work (Header step) = Unit {0}
-SoundStep ram work (Command opcode length step) = Carried opcode length work × SoundCommand length step
-SoundStep ram work (Answer opcode length step) = Answering opcode length work × SoundAnswer length step
+SoundStep ram work (Command opcode size step) = Carried opcode size work × SoundCommand size step
+SoundStep ram work (Answer opcode size step) = Answering opcode size work × SoundAnswer size step
 SoundStep ram work Refusal = Unit {0}
 SoundStep ram work (Running address) = isInRam address ram ≡ true
 
@@ -52,11 +52,11 @@ pub record Ready (step : Step) (m : Memories) : Type 0 where
 abbrev pub Sound : State → Type 0
 Sound s = Ready (s .step) (s .mem)
 
--- payload and answer lie in a work buffer of `size` bytes
-abbrev pub InWork : Step → (size : ℕ) → Type 0
-InWork (Greeting place) size = Unit {0}
-InWork (Header step) size = Unit {0}
-InWork (Command opcode length step) size = length ≤ size
-InWork (Answer opcode length step) size = length ≤ size
-InWork Refusal size = Unit {0}
-InWork (Running address) size = Unit {0}
+-- payload and answer lie in a work buffer of `work` bytes
+abbrev pub InWork : Step → (work : ℕ) → Type 0
+InWork (Greeting place) work = Unit {0}
+InWork (Header step) work = Unit {0}
+InWork (Command opcode size step) work = size ≤ work
+InWork (Answer opcode size step) work = size ≤ work
+InWork Refusal work = Unit {0}
+InWork (Running address) work = Unit {0}

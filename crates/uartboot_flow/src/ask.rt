@@ -30,27 +30,27 @@ pub enum Ask {
     Halt,
 }
 
-fn ask_command(opcode: Opcode, length: u32, step: CommandStep) -> Ask
-    ensures { λ r. ⌜ r ≡ askCommand opcode length step ⌝ }
+fn ask_command(opcode: Opcode, size: u32, step: CommandStep) -> Ask
+    ensures { λ r. ⌜ r ≡ askCommand opcode size step ⌝ }
 {
     match step {
-        CommandStep::SendAck => Ask::Send(Sending::Acceptance(opcode, length)),
-        CommandStep::TakePayload(place) => Ask::Take(Taking::Payload(opcode, length, place)),
+        CommandStep::SendAck => Ask::Send(Sending::Acceptance(opcode, size)),
+        CommandStep::TakePayload(place) => Ask::Take(Taking::Payload(opcode, size, place)),
         CommandStep::SendPayloadAck => Ask::Send(Sending::Byte),
-        CommandStep::SendCrcLow => Ask::Send(Sending::Crc(opcode, length)),
+        CommandStep::SendCrcLow => Ask::Send(Sending::Crc(opcode, size)),
         CommandStep::SendCrcHigh => Ask::Send(Sending::Byte),
-        CommandStep::TakeGo => Ask::Take(Taking::Go(opcode, length)),
+        CommandStep::TakeGo => Ask::Take(Taking::Go(opcode, size)),
     }
 }
 
-fn ask_answer(opcode: Opcode, length: u32, step: AnswerStep) -> Ask
-    ensures { λ r. ⌜ r ≡ askAnswer opcode length step ⌝ }
+fn ask_answer(opcode: Opcode, size: u32, step: AnswerStep) -> Ask
+    ensures { λ r. ⌜ r ≡ askAnswer opcode size step ⌝ }
 {
     match step {
         AnswerStep::SendLengthLow => Ask::Send(Sending::Byte),
         AnswerStep::SendLengthHigh => Ask::Send(Sending::Byte),
         AnswerStep::TakeGo => Ask::Take(Taking::Byte),
-        AnswerStep::SendAnswer(place) => Ask::Send(Sending::Answer(opcode, length, place)),
+        AnswerStep::SendAnswer(place) => Ask::Send(Sending::Answer(opcode, size, place)),
         AnswerStep::TakeCrcLow => Ask::Take(Taking::Byte),
         AnswerStep::TakeCrcHigh(_) => Ask::Take(Taking::Byte),
         AnswerStep::SendAck => Ask::Send(Sending::Byte),
@@ -63,8 +63,8 @@ pub fn ask_of(step: Step) -> Ask
     match step {
         Step::Greeting(_) => Ask::Send(Sending::Byte),
         Step::Header(_) => Ask::Take(Taking::Byte),
-        Step::Command(opcode, length, inner) => ask_command(opcode, length, inner),
-        Step::Answer(opcode, length, inner) => ask_answer(opcode, length, inner),
+        Step::Command(opcode, size, inner) => ask_command(opcode, size, inner),
+        Step::Answer(opcode, size, inner) => ask_answer(opcode, size, inner),
         Step::Refusal => Ask::Send(Sending::Byte),
         Step::Running(_) => Ask::Halt,
     }
