@@ -39,12 +39,12 @@ gives-end : (s : State) → need s ≡ runs → Gives s [] [] s
 gives-end s e = record { whole = uncut-run receiver lawful-any s [] e }
 
 -- one byte is taken first
-gives-take : (s : State) (b : ℕ) {stream said : List ℕ} {t : State} → need s ≡ machine.take → Gives (took s b) stream said t →
+gives-take : (s : State) (b : ℕ) {stream said : List ℕ} {t : State} → need s ≡ machine.takeOne → Gives (took s b) stream said t →
     Gives s (b ∷ stream) said t
 gives-take s b {stream} e g = record { whole = uncut-act receiver lawful-any s tt (b ∷ stream) 1 e (omega arith) ∙ rw (g .whole, one-add) }
 
 -- one byte is sent first
-gives-send : (s : State) {stream said : List ℕ} {t : State} → need s ≡ machine.send → Gives (sent s) stream said t →
+gives-send : (s : State) {stream said : List ℕ} {t : State} → need s ≡ machine.sendOne → Gives (sent s) stream said t →
     Gives s stream (byte s ∷ said) t
 gives-send s {stream} e g = record { whole = uncut-act receiver lawful-any s tt stream 0 e (omega arith) ∙ rw (g .whole, zero-add) }
 

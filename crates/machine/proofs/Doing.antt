@@ -51,13 +51,13 @@ module _ {A S : Type 0} where
         (λ events s a e g h. by-take events s a g (does s) (all events s h) e)
         (λ events s e h. by-send events s (does s) (all events s h) e)
       where
-        by-take : (events : List (Event A S)) (s : S) (a : A) → Good a → (d : Does A S) → Leaves Good P events s d → needOf d ≡ machine.take →
+        by-take : (events : List (Event A S)) (s : S) (a : A) → Good a → (d : Does A S) → Leaves Good P events s d → needOf d ≡ machine.takeOne →
             P (record { state = s; view = a ∷ [] } ∷ events) (tookOf d s a)
         by-take events s a g (takes next) l e = l a g
         by-take events s a g (sends byte next) l e = absurd (let z : _≡_ {A = ℕ} 0 1 = cc in omega arith)
         by-take events s a g runs l e = absurd (let z : _≡_ {A = ℕ} 0 1 = cc in omega arith)
 
-        by-send : (events : List (Event A S)) (s : S) (d : Does A S) → Leaves Good P events s d → needOf d ≡ machine.send →
+        by-send : (events : List (Event A S)) (s : S) (d : Does A S) → Leaves Good P events s d → needOf d ≡ machine.sendOne →
             P (record { state = s; view = [] } ∷ events) (sentOf d s)
         by-send events s (takes next) l e = absurd (let z : _≡_ {A = ℕ} 0 1 = cc in omega arith)
         by-send events s (sends byte next) l e = l
@@ -81,7 +81,7 @@ module _ {A S : Type 0} where
         sent-in s (sends byte next) l h = l
         sent-in s runs l h = h
 
-        counted : (s : S) (d : Does A S) → Counted due s d → needOf d ≡ machine.send → due s ≡ suc (due (sentOf d s))
+        counted : (s : S) (d : Does A S) → Counted due s d → needOf d ≡ machine.sendOne → due s ≡ suc (due (sentOf d s))
         counted s (takes next) l e = absurd (let z : _≡_ {A = ℕ} 0 1 = cc in omega arith)
         counted s (sends byte next) l e = l
         counted s runs l e = absurd (let z : _≡_ {A = ℕ} 0 1 = cc in omega arith)

@@ -13,8 +13,8 @@ use Rattle.machine.proofs.Stops.{viewsOf, not-both}
 
 -- a need of a line
 pub data Line (n : Need) : Type 0 where
-  takes : n ≡ machine.take → Line n
-  sends : n ≡ machine.send → Line n
+  takes : n ≡ machine.takeOne → Line n
+  sends : n ≡ machine.sendOne → Line n
   ends : n ≡ runs → Line n
 
 module _ {A S : Type 0} (need : S → Need) (took : S → A → S) (byte : S → ℕ) (sent : S → S) (due : S → ℕ) (is-line : (s : S) → Line (need s)) where
@@ -43,8 +43,8 @@ module _ {A S : Type 0} (need : S → Need) (took : S → A → S) (byte : S →
 
   -- what takes and sends keep, every action keeps
   pub line-kept : (Good : A → Type 0) (P : List (Event A S) → S → Type 0) →
-      ((events : List (Event A S)) (s : S) (a : A) → need s ≡ machine.take → Good a → P events s → P (record { state = s; view = a ∷ [] } ∷ events) (took s a)) →
-      ((events : List (Event A S)) (s : S) → need s ≡ machine.send → P events s → P (record { state = s; view = [] } ∷ events) (sent s)) →
+      ((events : List (Event A S)) (s : S) (a : A) → need s ≡ machine.takeOne → Good a → P events s → P (record { state = s; view = a ∷ [] } ∷ events) (took s a)) →
+      ((events : List (Event A S)) (s : S) → need s ≡ machine.sendOne → P events s → P (record { state = s; view = [] } ∷ events) (sent s)) →
       Kept m Good P
   line-kept Good P by-take by-send events s view views e l w h = go (is-line s) view l w
     where
@@ -56,8 +56,8 @@ module _ {A S : Type 0} (need : S → Need) (took : S → A → S) (byte : S →
       go (sends f) (a ∷ view) l w = let v : views ≡ 0 = ap viewsOf (sym e ∙ f) in absurd (let z : ⊥ = omega arith in z)
       go (ends f) view l w = absurd (not-both views (sym f ∙ e))
 
-  pub line-lawful : (Good : A → Type 0) (Sound : S → Type 0) → ((s : S) (a : A) → need s ≡ machine.take → Good a → Sound s → Sound (took s a)) →
-      ((s : S) → need s ≡ machine.send → Sound s → Sound (sent s)) → ((s : S) → Sound s → need s ≡ machine.send → due s ≡ suc (due (sent s))) →
+  pub line-lawful : (Good : A → Type 0) (Sound : S → Type 0) → ((s : S) (a : A) → need s ≡ machine.takeOne → Good a → Sound s → Sound (took s a)) →
+      ((s : S) → need s ≡ machine.sendOne → Sound s → Sound (sent s)) → ((s : S) → Sound s → need s ≡ machine.sendOne → due s ≡ suc (due (sent s))) →
       Lawful m Good Sound
   line-lawful Good Sound by-take by-send exact =
       record {

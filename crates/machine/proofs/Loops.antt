@@ -116,17 +116,17 @@ module _ {A S : Type 0} (need : S → Need) (took : S → A → S) (byte : S →
 
   module _ {Good : A → Type 0} {Sound : S → Type 0} (law : Lawful m Good Sound) {s₀ : S} {input : List A} {old : List ℕ}
       {s : S} {i j : ℕ} {reply : List ℕ} (r : Reached m s₀ input old s i j reply) where
-    pub reached-take : (d : A) → need s ≡ machine.take → i < length input → Reached m s₀ input old (took s (getD input i d)) (i + 1) j reply
+    pub reached-take : (d : A) → need s ≡ machine.takeOne → i < length input → Reached m s₀ input old (took s (getD input i d)) (i + 1) j reply
     reached-take d e h =
         let view : take 1 (drop i input) ≡ getD input i d ∷ [] = rw (drop-cons input i d h) refl in
         rw view at (reached-silent m s₀ input old s i j reply r law 1 e (omega arith) (rw view refl))
 
-    pub reached-send : need s ≡ machine.send → j < length reply → Reached m s₀ input old (sent s) i (j + 1) (set reply j (byte s))
+    pub reached-send : need s ≡ machine.sendOne → j < length reply → Reached m s₀ input old (sent s) i (j + 1) (set reply j (byte s))
     reached-send e h =
         rw add-zero at (reached-byte m s₀ input old s i j reply r law 0 e (omega (arith, r .taken-fits)) (byte s) refl h)
 
-    pub acted-hungry : need s ≡ machine.take → length input ≤ i → Acted m s₀ input old i j 1 s reply
+    pub acted-hungry : need s ≡ machine.takeOne → length input ≤ i → Acted m s₀ input old i j 1 s reply
     acted-hungry e h = acted-short m s₀ input old s i j reply r 1 e (omega arith)
 
-    pub acted-choked : need s ≡ machine.send → length reply ≤ j → Acted m s₀ input old i j 2 s reply
+    pub acted-choked : need s ≡ machine.sendOne → length reply ≤ j → Acted m s₀ input old i j 2 s reply
     acted-choked e h = acted-full m s₀ input old s i j reply r 0 e (omega (arith, r .taken-fits)) (omega arith)

@@ -12,8 +12,8 @@ pub data Does (A S : Type 0) : Type 0 where
 
 module _ {A S : Type 0} where
   abbrev pub needOf : Does A S → Need
-  needOf (takes next) = machine.take
-  needOf (sends byte next) = machine.send
+  needOf (takes next) = machine.takeOne
+  needOf (sends byte next) = machine.sendOne
   needOf runs = machine.runs
 
   -- a state that doesn't take, or send, stays

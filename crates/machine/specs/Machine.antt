@@ -25,11 +25,11 @@ pub record Machine (A S : Type 0) : Type 0 where
   pub due : S → ℕ
 
 -- a line's actions: take one symbol and send nothing, or send one byte with nothing in view
-abbrev pub take : Need
-take = acts 1
+abbrev pub takeOne : Need
+takeOne = acts 1
 
-abbrev pub send : Need
-send = acts 0
+abbrev pub sendOne : Need
+sendOne = acts 0
 
 module _ {A S : Type 0} where
   abbrev pub lineAfter : (took : S → A → S) (sent : S → S) → S → List A → S
@@ -40,6 +40,6 @@ module _ {A S : Type 0} where
   lineSays byte s [] = byte s ∷ []
   lineSays byte s (a ∷ view) = []
 
-  -- a machine whose needs are take, send and runs: what a taken symbol does, the byte to send, the state once it is sent
+  -- a machine whose needs are takeOne, sendOne and runs: what a taken symbol does, the byte to send, the state once it is sent
   abbrev pub line : (need : S → Need) (took : S → A → S) (byte : S → ℕ) (sent : S → S) (due : S → ℕ) → Machine A S
   line need took byte sent due = record { need = need; after = lineAfter took sent; says = lineSays byte; takes = λ s view. length view; due = due }

@@ -53,7 +53,7 @@ headed-never : (kind : Kind) (size reason n : ℕ) → runs (flow.headed kind si
 headed-never kind size reason n = never (eqb n 0) (flow.zeroLength kind reason) (flow.judged size reason n) (zero-never kind reason) (judged-never size reason n)
 
 -- a taken byte starts the code exactly if it is the acknowledgement
-took-runs : (kind : Kind) (size : ℕ) (s : Step) (reason b : ℕ) → needOf (askOf s) ≡ machine.take →
+took-runs : (kind : Kind) (size : ℕ) (s : Step) (reason b : ℕ) → needOf (askOf s) ≡ machine.takeOne →
     runs (flow.took kind size s reason b .step) ≡ (awaitsAck s && eqb b ack)
 took-runs kind size SendStx reason b e = refl
 took-runs kind size TakeSoh reason b e = never (eqb b soh) _ _ refl refl
@@ -73,7 +73,7 @@ took-runs kind size SendNak reason b e = refl
 took-runs kind size (Running address) reason b e = cc
 
 -- a sent byte starts nothing
-sent-runs : (s : Step) → needOf (askOf s) ≡ machine.send → runs (flow.sent s) ≡ false
+sent-runs : (s : Step) → needOf (askOf s) ≡ machine.sendOne → runs (flow.sent s) ≡ false
 sent-runs SendStx e = refl
 sent-runs TakeSoh e = refl
 sent-runs TakeLow e = refl
@@ -87,13 +87,13 @@ sent-runs (TakeAck n) e = refl
 sent-runs SendNak e = refl
 sent-runs (Running address) e = cc
 
-runs-taken : (events : List (Event ℕ State)) (s : State) (b : ℕ) → needOf (askOf (s .step)) ≡ machine.take → Byte b → RunsExactly awaits receiver events s →
+runs-taken : (events : List (Event ℕ State)) (s : State) (b : ℕ) → needOf (askOf (s .step)) ≡ machine.takeOne → Byte b → RunsExactly awaits receiver events s →
     RunsExactly awaits receiver (record { state = s; view = b ∷ [] } ∷ events) (took s b)
 unfolding took
 runs-taken events s b e w h =
     runs-on awaits receiver events s (took s b) (b ∷ []) 1 e h (took-runs (s .kind) (length (s .ram)) (s .step) (s .reason) b e)
 
-runs-sent : (events : List (Event ℕ State)) (s : State) → needOf (askOf (s .step)) ≡ machine.send → RunsExactly awaits receiver events s →
+runs-sent : (events : List (Event ℕ State)) (s : State) → needOf (askOf (s .step)) ≡ machine.sendOne → RunsExactly awaits receiver events s →
     RunsExactly awaits receiver (record { state = s; view = [] } ∷ events) (sent s)
 runs-sent events s e h = runs-on awaits receiver events s (sent s) [] 0 e h (sent-runs (s .step) e ∙ sym (and-false (awaitsAck (s .step))))
 

@@ -39,7 +39,7 @@ module _ {kind : Kind} {first : Step} {reason₀ : ℕ} {ram₀ input old : List
 
   module _ {s : Step} {last : ℕ} {ram reply : List ℕ} {i j : ℕ} (t : Turn kind first reason₀ ram₀ input old s last ram reply i j) where
     -- any byte taken
-    takes : needOf (askOf s) ≡ machine.take → i < length input →
+    takes : needOf (askOf s) ≡ machine.takeOne → i < length input →
         let n = took (state kind s last ram) (getD input i 0) in
         Turn kind first reason₀ ram₀ input old (n .step) (n .reason) (n .ram) reply (i + 1) j
     unfolding took

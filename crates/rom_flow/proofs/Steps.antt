@@ -111,7 +111,7 @@ sound-sent kind size (TakeAck length) h = h
 sound-sent kind size SendNak h = tt
 sound-sent kind size (Running address) h = h
 
-pub due-sent : (s : Step) → needOf (askOf s) ≡ machine.send → due s ≡ suc (due (sent s))
+pub due-sent : (s : Step) → needOf (askOf s) ≡ machine.sendOne → due s ≡ suc (due (sent s))
 due-sent SendStx e = refl
 due-sent TakeSoh e = cc
 due-sent TakeLow e = cc

@@ -30,9 +30,9 @@ askOf SendNak = Send (Byte nak)
 askOf (Running address) = Halt
 
 abbrev pub needOf : Ask → Need
-needOf TakeByte = machine.take
-needOf (TakeCode length place) = machine.take
-needOf (Send output) = machine.send
+needOf TakeByte = machine.takeOne
+needOf (TakeCode length place) = machine.takeOne
+needOf (Send output) = machine.sendOne
 needOf Halt = runs
 
 -- the XOR of bytes, starting from x

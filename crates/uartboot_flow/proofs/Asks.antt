@@ -75,12 +75,12 @@ command-takes-no-byte opcode length TakeGo e = cc
 
 -- what an ask needs
 abbrev pub needIn : Ask → Need
-needIn (Take t) = machine.take
-needIn (Send t) = machine.send
+needIn (Take t) = machine.takeOne
+needIn (Send t) = machine.sendOne
 needIn Halt = runs
 
 module _ (reason : ℕ) (m : Memories) where
-  header-need : (step : HeaderStep) → needOf (doesAt reason m (Header step)) ≡ machine.take
+  header-need : (step : HeaderStep) → needOf (doesAt reason m (Header step)) ≡ machine.takeOne
   header-need TakeSoh = refl
   header-need TakeOpcode = refl
   header-need (TakeLow opcode) = refl
