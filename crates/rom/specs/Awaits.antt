@@ -7,16 +7,16 @@ use Rattle.rom_flow.specs.Receiver.{State}
 
 -- the step that takes the byte after the XOR
 abbrev pub awaitsAck : Step → Bool
-awaitsAck (TakeAck length) = true
+awaitsAck (TakeAck total) = true
 awaitsAck SendStx = false
 awaitsAck TakeSoh = false
 awaitsAck TakeLow = false
 awaitsAck (TakeHigh low) = false
 awaitsAck TakeExtendedLow = false
 awaitsAck (TakeExtendedHigh low) = false
-awaitsAck (SendAck length) = false
-awaitsAck (TakeCode length place) = false
-awaitsAck (SendXor length) = false
+awaitsAck (SendAck total) = false
+awaitsAck (TakeCode total place) = false
+awaitsAck (SendXor total) = false
 awaitsAck SendNak = false
 awaitsAck (Running address) = false
 

@@ -21,8 +21,8 @@ abbrev pub kindNumber : Kind → ℕ
 kindNumber P = 0
 kindNumber E = 1
 
-abbrev pub fields : (phase length place held : ℕ) → Numbers
-fields phase length place held = record { phase = phase; length = length; place = place; held = held }
+abbrev pub fields : (phase total place held : ℕ) → Numbers
+fields phase total place held = record { phase = phase; length = total; place = place; held = held }
 
 -- a step in numbers; `held` is the low byte of a length, or the address at which code runs
 abbrev pub fieldsOf : Step → Numbers
@@ -32,10 +32,10 @@ fieldsOf TakeLow = fields 2 0 0 0
 fieldsOf (TakeHigh low) = fields 3 0 0 low
 fieldsOf TakeExtendedLow = fields 4 0 0 0
 fieldsOf (TakeExtendedHigh low) = fields 5 0 0 low
-fieldsOf (SendAck length) = fields 6 length 0 0
-fieldsOf (TakeCode length place) = fields 7 length place 0
-fieldsOf (SendXor length) = fields 8 length 0 0
-fieldsOf (TakeAck length) = fields 9 length 0 0
+fieldsOf (SendAck total) = fields 6 total 0 0
+fieldsOf (TakeCode total place) = fields 7 total place 0
+fieldsOf (SendXor total) = fields 8 total 0 0
+fieldsOf (TakeAck total) = fields 9 total 0 0
 fieldsOf SendNak = fields 10 0 0 0
 fieldsOf (Running address) = fields 11 0 0 (address .0)
 
@@ -54,8 +54,8 @@ written kind step reason =
     }
 
 -- with code of 1 byte or more, and no more than a RAM of `size` bytes
-abbrev pub sized : (size length : ℕ) → Step → Found
-sized size length step = cond (eqb length 0) found.Unsound (cond (leb length size) (At step) found.Unsound)
+abbrev pub sized : (size total : ℕ) → Step → Found
+sized size total step = cond (eqb total 0) found.Unsound (cond (leb total size) (At step) found.Unsound)
 
 -- code runs in RAM
 abbrev pub runningIn : (size address : ℕ) → Found

@@ -26,12 +26,12 @@ pub enum Decoded {
     Unsound,
 }
 
-fn fields(phase: u32, length: u32, place: u32, held: u32) -> Numbers
-    ensures { λ r. ⌜ r ≡ record { phase = phase; length = length; place = place; held = held } ⌝ }
+fn fields(phase: u32, total: u32, place: u32, held: u32) -> Numbers
+    ensures { λ r. ⌜ r ≡ record { phase = phase; length = total; place = place; held = held } ⌝ }
 {
     Numbers {
         phase: phase,
-        length: length,
+        length: total,
         place: place,
         held: held,
     }
@@ -47,10 +47,10 @@ fn fields_of(step: Step) -> Numbers
         Step::TakeHigh(low) => fields(3, 0, 0, low),
         Step::TakeExtendedLow => fields(4, 0, 0, 0),
         Step::TakeExtendedHigh(low) => fields(5, 0, 0, low),
-        Step::SendAck(length) => fields(6, length, 0, 0),
-        Step::TakeCode(length, place) => fields(7, length, place, 0),
-        Step::SendXor(length) => fields(8, length, 0, 0),
-        Step::TakeAck(length) => fields(9, length, 0, 0),
+        Step::SendAck(total) => fields(6, total, 0, 0),
+        Step::TakeCode(total, place) => fields(7, total, place, 0),
+        Step::SendXor(total) => fields(8, total, 0, 0),
+        Step::TakeAck(total) => fields(9, total, 0, 0),
         Step::SendNak => fields(10, 0, 0, 0),
         Step::Running(address) => fields(11, 0, 0, address.0),
     }
@@ -83,13 +83,13 @@ pub fn encode(kind: Kind, step: Step, reason: u32) -> Record
 }
 
 // A step whose code has 1 byte or more, and no more than the RAM.
-fn sized(size: u32, length: u32, step: Step) -> Found
-    ensures { λ r. ⌜ r ≡ sized size length step ⌝ }
+fn sized(size: u32, total: u32, step: Step) -> Found
+    ensures { λ r. ⌜ r ≡ sized size total step ⌝ }
 {
-    if length == 0 {
+    if total == 0 {
         return Found::Unsound;
     }
-    if length <= size {
+    if total <= size {
         Found::At(step)
     } else {
         Found::Unsound
@@ -129,7 +129,7 @@ fn phase_in(kind: Kind, size: u32, numbers: Numbers) -> Found
     ensures { λ r. ⌜ r ≡ phaseIn kind size numbers ⌝ }
 {
     let phase = numbers.phase;
-    let length = numbers.length;
+    let total = numbers.length;
     match phase {
         0 => Found::At(Step::SendStx),
         1 => Found::At(Step::TakeSoh),
@@ -137,10 +137,10 @@ fn phase_in(kind: Kind, size: u32, numbers: Numbers) -> Found
         3 => Found::At(Step::TakeHigh(numbers.held)),
         4 => extended(kind, Step::TakeExtendedLow),
         5 => extended(kind, Step::TakeExtendedHigh(numbers.held)),
-        6 => sized(size, length, Step::SendAck(length)),
-        7 => sized(size, length, Step::TakeCode(length, numbers.place)),
-        8 => sized(size, length, Step::SendXor(length)),
-        9 => sized(size, length, Step::TakeAck(length)),
+        6 => sized(size, total, Step::SendAck(total)),
+        7 => sized(size, total, Step::TakeCode(total, numbers.place)),
+        8 => sized(size, total, Step::SendXor(total)),
+        9 => sized(size, total, Step::TakeAck(total)),
         10 => Found::At(Step::SendNak),
         11 => running_in(size, numbers.held),
         _ => Found::Unsound,

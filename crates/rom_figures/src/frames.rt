@@ -20,12 +20,12 @@ fn framed(kind: usize, code: &[u8], output: &mut [u8]) -> Framed {
     }
 }
 
-fn show_frame(number: u32, length: usize, output: &[u8]) {
+fn show_frame(number: u32, size: usize, output: &[u8]) {
     decimal(b": number ", number as u64);
-    decimal(b", length ", length as u64);
+    decimal(b", length ", size as u64);
     bytes(b"; first", part(output, 0, 7));
-    bytes(b", last", last(part(output, 0, length), 3));
-    bytes(b", then", part(output, length, 3));
+    bytes(b", last", last(part(output, 0, size), 3));
+    bytes(b", then", part(output, size, 3));
     sums(output);
 }
 

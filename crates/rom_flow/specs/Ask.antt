@@ -22,16 +22,16 @@ askOf TakeLow = TakeByte
 askOf (TakeHigh low) = TakeByte
 askOf TakeExtendedLow = TakeByte
 askOf (TakeExtendedHigh low) = TakeByte
-askOf (SendAck length) = Send (Byte ack)
-askOf (step.TakeCode length place) = TakeCode length place
-askOf (SendXor length) = Send (Xor length)
-askOf (TakeAck length) = TakeByte
+askOf (SendAck total) = Send (Byte ack)
+askOf (step.TakeCode total place) = TakeCode total place
+askOf (SendXor total) = Send (Xor total)
+askOf (TakeAck total) = TakeByte
 askOf SendNak = Send (Byte nak)
 askOf (Running address) = Halt
 
 abbrev pub needOf : Ask → Need
 needOf TakeByte = machine.takeOne
-needOf (TakeCode length place) = machine.takeOne
+needOf (TakeCode total place) = machine.takeOne
 needOf (Send output) = machine.sendOne
 needOf Halt = runs
 
@@ -47,18 +47,18 @@ xorOf bytes = xorFrom 0 bytes
 -- the code's bytes are the first of the RAM
 abbrev pub outputOf : Output → (ram : List ℕ) → ℕ
 outputOf (Byte b) ram = b
-outputOf (Xor length) ram = xorOf (take length ram)
+outputOf (Xor count) ram = xorOf (take count ram)
 
 -- the byte that is sent; an ask that sends none has 0 here, which nobody reads
 abbrev pub byteOf : Ask → (ram : List ℕ) → ℕ
 byteOf (Send output) ram = outputOf output ram
 byteOf TakeByte ram = 0
-byteOf (TakeCode length place) ram = 0
+byteOf (TakeCode total place) ram = 0
 byteOf Halt ram = 0
 
 -- the RAM once a byte is taken: code byte i is stored at RAM byte i
 abbrev pub stored : Ask → (byte : ℕ) (ram : List ℕ) → List ℕ
-stored (TakeCode length place) byte ram = set ram place byte
+stored (TakeCode total place) byte ram = set ram place byte
 stored TakeByte byte ram = ram
 stored (Send output) byte ram = ram
 stored Halt byte ram = ram

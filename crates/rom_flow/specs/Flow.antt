@@ -37,8 +37,8 @@ abbrev pub to : Step → (reason : ℕ) → Progress
 to step reason = record { step = step; reason = reason }
 
 -- a length that is not zero, with a RAM of `size` bytes
-abbrev pub judged : (size reason length : ℕ) → Progress
-judged size reason length = cond (leb length size) (to (SendAck length) reason) (to SendNak longCode)
+abbrev pub judged : (size reason total : ℕ) → Progress
+judged size reason total = cond (leb total size) (to (SendAck total) reason) (to SendNak longCode)
 
 -- both length bytes zero: kind P refuses, kind E takes two more
 abbrev pub zeroLength : Kind → (reason : ℕ) → Progress
@@ -46,12 +46,12 @@ zeroLength P reason = to SendNak emptyCode
 zeroLength E reason = to TakeExtendedLow reason
 
 -- a length of two bytes
-abbrev pub headed : Kind → (size reason length : ℕ) → Progress
-headed kind size reason length = cond (eqb length 0) (zeroLength kind reason) (judged size reason length)
+abbrev pub headed : Kind → (size reason total : ℕ) → Progress
+headed kind size reason total = cond (eqb total 0) (zeroLength kind reason) (judged size reason total)
 
 -- where `count` of the code's bytes are in
-abbrev pub codeStep : (length count : ℕ) → Step
-codeStep length count = cond (ltb count length) (TakeCode length count) (SendXor length)
+abbrev pub codeStep : (total count : ℕ) → Step
+codeStep total count = cond (ltb count total) (TakeCode total count) (SendXor total)
 
 -- what a taken byte does; a step that takes none stays
 abbrev pub took : Kind → (size : ℕ) → Step → (reason byte : ℕ) → Progress
@@ -60,40 +60,40 @@ took kind size TakeLow reason byte = to (TakeHigh byte) reason
 took kind size (TakeHigh low) reason byte = headed kind size reason (low + 256 * byte)
 took kind size TakeExtendedLow reason byte = to (TakeExtendedHigh byte) reason
 took kind size (TakeExtendedHigh low) reason byte = judged size reason (firstExtended + (low + 256 * byte))
-took kind size (TakeCode length place) reason byte = to (codeStep length (place + 1)) reason
-took kind size (TakeAck length) reason byte = cond (eqb byte ack) (to (Running start) reason) (to SendStx notAcked)
+took kind size (TakeCode total place) reason byte = to (codeStep total (place + 1)) reason
+took kind size (TakeAck total) reason byte = cond (eqb byte ack) (to (Running start) reason) (to SendStx notAcked)
 took kind size SendStx reason byte = to SendStx reason
-took kind size (SendAck length) reason byte = to (SendAck length) reason
-took kind size (SendXor length) reason byte = to (SendXor length) reason
+took kind size (SendAck total) reason byte = to (SendAck total) reason
+took kind size (SendXor total) reason byte = to (SendXor total) reason
 took kind size SendNak reason byte = to SendNak reason
 took kind size (Running address) reason byte = to (Running address) reason
 
 -- the step once its byte is sent; a step that sends none stays
 abbrev pub sent : Step → Step
 sent SendStx = TakeSoh
-sent (SendAck length) = TakeCode length 0
-sent (SendXor length) = TakeAck length
+sent (SendAck total) = TakeCode total 0
+sent (SendXor total) = TakeAck total
 sent SendNak = SendStx
 sent TakeSoh = TakeSoh
 sent TakeLow = TakeLow
 sent (TakeHigh low) = TakeHigh low
 sent TakeExtendedLow = TakeExtendedLow
 sent (TakeExtendedHigh low) = TakeExtendedHigh low
-sent (TakeCode length place) = TakeCode length place
-sent (TakeAck length) = TakeAck length
+sent (TakeCode total place) = TakeCode total place
+sent (TakeAck total) = TakeAck total
 sent (Running address) = Running address
 
 -- how many bytes are sent from here before one is taken
 abbrev pub due : Step → ℕ
 due SendStx = 1
-due (SendAck length) = 1
-due (SendXor length) = 1
+due (SendAck total) = 1
+due (SendXor total) = 1
 due SendNak = 2
 due TakeSoh = 0
 due TakeLow = 0
 due (TakeHigh low) = 0
 due TakeExtendedLow = 0
 due (TakeExtendedHigh low) = 0
-due (TakeCode length place) = 0
-due (TakeAck length) = 0
+due (TakeCode total place) = 0
+due (TakeAck total) = 0
 due (Running address) = 0

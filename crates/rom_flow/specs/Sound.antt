@@ -18,8 +18,8 @@ Extends P = ⊥
 Extends E = Unit {0}
 
 -- code of 1 byte or more, and no more than a RAM of `size` bytes
-abbrev pub Sized : (size length : ℕ) → Type 0
-Sized size length = (0 < length) × (length ≤ size)
+abbrev pub Sized : (size total : ℕ) → Type 0
+Sized size total = (0 < total) × (total ≤ size)
 
 abbrev pub SoundStep : Kind → (size : ℕ) → Step → Type 0
 SoundStep kind size SendStx = Unit {0}
@@ -28,10 +28,10 @@ SoundStep kind size TakeLow = Unit {0}
 SoundStep kind size (TakeHigh low) = Unit {0}
 SoundStep kind size TakeExtendedLow = Extends kind
 SoundStep kind size (TakeExtendedHigh low) = Extends kind
-SoundStep kind size (SendAck length) = Sized size length
-SoundStep kind size (TakeCode length place) = (place < length) × (length ≤ size)
-SoundStep kind size (SendXor length) = Sized size length
-SoundStep kind size (TakeAck length) = Sized size length
+SoundStep kind size (SendAck total) = Sized size total
+SoundStep kind size (TakeCode total place) = (place < total) × (total ≤ size)
+SoundStep kind size (SendXor total) = Sized size total
+SoundStep kind size (TakeAck total) = Sized size total
 SoundStep kind size SendNak = Unit {0}
 SoundStep kind size (Running address) = isInRam address size ≡ true
 

@@ -44,8 +44,8 @@ pub fn ask_of(step: Step) -> Ask
         Step::TakeExtendedLow => Ask::TakeByte,
         Step::TakeExtendedHigh(_) => Ask::TakeByte,
         Step::SendAck(_) => Ask::Send(Output::Byte(ACK)),
-        Step::TakeCode(length, place) => Ask::TakeCode(length, place),
-        Step::SendXor(length) => Ask::Send(Output::Xor(length)),
+        Step::TakeCode(total, place) => Ask::TakeCode(total, place),
+        Step::SendXor(total) => Ask::Send(Output::Xor(total)),
         Step::TakeAck(_) => Ask::TakeByte,
         Step::SendNak => Ask::Send(Output::Byte(NAK)),
         Step::Running(_) => Ask::Halt,
@@ -62,11 +62,11 @@ fn to(step: Step, reason: u32) -> Progress
 }
 
 // A length that is not zero, with a RAM of so many bytes.
-fn judge(size: u32, reason: u32, length: usize) -> Progress
-    ensures { λ r. ⌜ r ≡ judged size reason length ⌝ }
+fn judge(size: u32, reason: u32, total: usize) -> Progress
+    ensures { λ r. ⌜ r ≡ judged size reason total ⌝ }
 {
-    if length <= (size as usize) {
-        to(Step::SendAck(length as u32), reason)
+    if total <= (size as usize) {
+        to(Step::SendAck(total as u32), reason)
     } else {
         to(Step::SendNak, LONG_CODE)
     }
@@ -83,13 +83,13 @@ fn zero_length(kind: Kind, reason: u32) -> Progress
 }
 
 // A header's length of two bytes.
-fn header(kind: Kind, size: u32, reason: u32, length: usize) -> Progress
-    ensures { λ r. ⌜ r ≡ headed kind size reason length ⌝ }
+fn header(kind: Kind, size: u32, reason: u32, total: usize) -> Progress
+    ensures { λ r. ⌜ r ≡ headed kind size reason total ⌝ }
 {
-    if length == 0 {
+    if total == 0 {
         zero_length(kind, reason)
     } else {
-        judge(size, reason, length)
+        judge(size, reason, total)
     }
 }
 
@@ -101,13 +101,13 @@ fn pair(low: u32, high: u8) -> usize
 }
 
 // Where so many of the code's bytes are in.
-pub fn code_step(length: u32, count: u32) -> Step
-    ensures { λ r. ⌜ r ≡ codeStep length count ⌝ }
+pub fn code_step(total: u32, count: u32) -> Step
+    ensures { λ r. ⌜ r ≡ codeStep total count ⌝ }
 {
-    if count < length {
-        Step::TakeCode(length, count)
+    if count < total {
+        Step::TakeCode(total, count)
     } else {
-        Step::SendXor(length)
+        Step::SendXor(total)
     }
 }
 
@@ -150,8 +150,8 @@ pub fn sent(step: Step) -> Step
 {
     match step {
         Step::SendStx => Step::TakeSoh,
-        Step::SendAck(length) => Step::TakeCode(length, 0),
-        Step::SendXor(length) => Step::TakeAck(length),
+        Step::SendAck(total) => Step::TakeCode(total, 0),
+        Step::SendXor(total) => Step::TakeAck(total),
         Step::SendNak => Step::SendStx,
         Step::TakeSoh => step,
         Step::TakeLow => step,
