@@ -32,8 +32,8 @@ isGo TakeGo = true
 abbrev pub awaitsRun : Step → Bool
 awaitsRun (Greeting place) = false
 awaitsRun (Header step) = false
-awaitsRun (Command opcode length step) = isGo step && isRun opcode
-awaitsRun (Answer opcode length step) = false
+awaitsRun (Command opcode size step) = isGo step && isRun opcode
+awaitsRun (Answer opcode size step) = false
 awaitsRun Refusal = false
 awaitsRun (Running address) = false
 
@@ -50,8 +50,8 @@ isSoh (TakeHigh opcode low) = false
 abbrev pub awaitsCommand : Step → Bool
 awaitsCommand (Greeting place) = false
 awaitsCommand (Header step) = isSoh step
-awaitsCommand (Command opcode length step) = false
-awaitsCommand (Answer opcode length step) = false
+awaitsCommand (Command opcode size step) = false
+awaitsCommand (Answer opcode size step) = false
 awaitsCommand Refusal = false
 awaitsCommand (Running address) = false
 
@@ -67,16 +67,16 @@ isPayload TakeGo = false
 abbrev pub isEarly : Step → Bool
 isEarly (Greeting place) = false
 isEarly (Header step) = not (isSoh step)
-isEarly (Command opcode length step) = isPayload step
-isEarly (Answer opcode length step) = false
+isEarly (Command opcode size step) = isPayload step
+isEarly (Answer opcode size step) = false
 isEarly Refusal = false
 isEarly (Running address) = false
 
 abbrev pub isRefusal : Step → Bool
 isRefusal (Greeting place) = false
 isRefusal (Header step) = false
-isRefusal (Command opcode length step) = false
-isRefusal (Answer opcode length step) = false
+isRefusal (Command opcode size step) = false
+isRefusal (Answer opcode size step) = false
 isRefusal Refusal = true
 isRefusal (Running address) = false
 

@@ -25,8 +25,8 @@ use Rattle.uartboot_record.specs.declared.Numbers.{Numbers}
 use Rattle.uartboot_record.specs.declared.Found.{Found}
 use Rattle.uartboot_record.specs.declared.Found.the-variants.{At, Unsound}
 
-abbrev pub fields : (phase opcode length place held : ℕ) → Numbers
-fields phase opcode length place held = record { phase = phase; opcode = opcode; length = length; place = place; held = held }
+abbrev pub fields : (phase opcode size place held : ℕ) → Numbers
+fields phase opcode size place held = record { phase = phase; opcode = opcode; length = size; place = place; held = held }
 
 -- a step in numbers; `held` is a low byte, or the address at which code runs
 abbrev pub headerNumbers : HeaderStep → Numbers
@@ -35,28 +35,28 @@ headerNumbers TakeOpcode = fields 2 0 0 0 0
 headerNumbers (TakeLow opcode) = fields 3 opcode 0 0 0
 headerNumbers (TakeHigh opcode low) = fields 4 opcode 0 0 low
 
-abbrev pub commandNumbers : (opcode length : ℕ) → CommandStep → Numbers
-commandNumbers opcode length SendAck = fields 5 opcode length 0 0
-commandNumbers opcode length (TakePayload place) = fields 6 opcode length place 0
-commandNumbers opcode length SendPayloadAck = fields 7 opcode length 0 0
-commandNumbers opcode length SendCrcLow = fields 8 opcode length 0 0
-commandNumbers opcode length SendCrcHigh = fields 9 opcode length 0 0
-commandNumbers opcode length TakeGo = fields 10 opcode length 0 0
+abbrev pub commandNumbers : (opcode size : ℕ) → CommandStep → Numbers
+commandNumbers opcode size SendAck = fields 5 opcode size 0 0
+commandNumbers opcode size (TakePayload place) = fields 6 opcode size place 0
+commandNumbers opcode size SendPayloadAck = fields 7 opcode size 0 0
+commandNumbers opcode size SendCrcLow = fields 8 opcode size 0 0
+commandNumbers opcode size SendCrcHigh = fields 9 opcode size 0 0
+commandNumbers opcode size TakeGo = fields 10 opcode size 0 0
 
-abbrev pub answerNumbers : (opcode length : ℕ) → AnswerStep → Numbers
-answerNumbers opcode length a.SendLengthLow = fields 11 opcode length 0 0
-answerNumbers opcode length a.SendLengthHigh = fields 12 opcode length 0 0
-answerNumbers opcode length a.TakeGo = fields 13 opcode length 0 0
-answerNumbers opcode length (a.SendAnswer place) = fields 14 opcode length place 0
-answerNumbers opcode length a.TakeCrcLow = fields 15 opcode length 0 0
-answerNumbers opcode length (a.TakeCrcHigh low) = fields 16 opcode length 0 low
-answerNumbers opcode length a.SendAck = fields 17 opcode length 0 0
+abbrev pub answerNumbers : (opcode size : ℕ) → AnswerStep → Numbers
+answerNumbers opcode size a.SendLengthLow = fields 11 opcode size 0 0
+answerNumbers opcode size a.SendLengthHigh = fields 12 opcode size 0 0
+answerNumbers opcode size a.TakeGo = fields 13 opcode size 0 0
+answerNumbers opcode size (a.SendAnswer place) = fields 14 opcode size place 0
+answerNumbers opcode size a.TakeCrcLow = fields 15 opcode size 0 0
+answerNumbers opcode size (a.TakeCrcHigh low) = fields 16 opcode size 0 low
+answerNumbers opcode size a.SendAck = fields 17 opcode size 0 0
 
 abbrev pub numbersOf : Step → Numbers
 numbersOf (Greeting place) = fields 0 0 0 place 0
 numbersOf (Header step) = headerNumbers step
-numbersOf (Command opcode length step) = commandNumbers (opcodeNumber opcode) length step
-numbersOf (Answer opcode length step) = answerNumbers (opcodeNumber opcode) length step
+numbersOf (Command opcode size step) = commandNumbers (opcodeNumber opcode) size step
+numbersOf (Answer opcode size step) = answerNumbers (opcodeNumber opcode) size step
 numbersOf Refusal = fields 18 0 0 0 0
 numbersOf (Running address) = fields 19 (opcodeNumber Run) 0 0 (address .0)
 

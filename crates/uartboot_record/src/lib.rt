@@ -30,13 +30,13 @@ pub enum Found {
     Unsound,
 }
 
-fn fields(phase: u32, opcode: u32, length: u32, place: u32, held: u32) -> Numbers
-    ensures { λ r. ⌜ r ≡ fields phase opcode length place held ⌝ }
+fn fields(phase: u32, opcode: u32, size: u32, place: u32, held: u32) -> Numbers
+    ensures { λ r. ⌜ r ≡ fields phase opcode size place held ⌝ }
 {
     Numbers {
         phase: phase,
         opcode: opcode,
-        length: length,
+        length: size,
         place: place,
         held: held,
     }
@@ -53,30 +53,30 @@ fn header_numbers(step: HeaderStep) -> Numbers
     }
 }
 
-fn command_numbers(opcode: u32, length: u32, step: CommandStep) -> Numbers
-    ensures { λ r. ⌜ r ≡ commandNumbers opcode length step ⌝ }
+fn command_numbers(opcode: u32, size: u32, step: CommandStep) -> Numbers
+    ensures { λ r. ⌜ r ≡ commandNumbers opcode size step ⌝ }
 {
     match step {
-        CommandStep::SendAck => fields(5, opcode, length, 0, 0),
-        CommandStep::TakePayload(place) => fields(6, opcode, length, place, 0),
-        CommandStep::SendPayloadAck => fields(7, opcode, length, 0, 0),
-        CommandStep::SendCrcLow => fields(8, opcode, length, 0, 0),
-        CommandStep::SendCrcHigh => fields(9, opcode, length, 0, 0),
-        CommandStep::TakeGo => fields(10, opcode, length, 0, 0),
+        CommandStep::SendAck => fields(5, opcode, size, 0, 0),
+        CommandStep::TakePayload(place) => fields(6, opcode, size, place, 0),
+        CommandStep::SendPayloadAck => fields(7, opcode, size, 0, 0),
+        CommandStep::SendCrcLow => fields(8, opcode, size, 0, 0),
+        CommandStep::SendCrcHigh => fields(9, opcode, size, 0, 0),
+        CommandStep::TakeGo => fields(10, opcode, size, 0, 0),
     }
 }
 
-fn answer_numbers(opcode: u32, length: u32, step: AnswerStep) -> Numbers
-    ensures { λ r. ⌜ r ≡ answerNumbers opcode length step ⌝ }
+fn answer_numbers(opcode: u32, size: u32, step: AnswerStep) -> Numbers
+    ensures { λ r. ⌜ r ≡ answerNumbers opcode size step ⌝ }
 {
     match step {
-        AnswerStep::SendLengthLow => fields(11, opcode, length, 0, 0),
-        AnswerStep::SendLengthHigh => fields(12, opcode, length, 0, 0),
-        AnswerStep::TakeGo => fields(13, opcode, length, 0, 0),
-        AnswerStep::SendAnswer(place) => fields(14, opcode, length, place, 0),
-        AnswerStep::TakeCrcLow => fields(15, opcode, length, 0, 0),
-        AnswerStep::TakeCrcHigh(low) => fields(16, opcode, length, 0, low),
-        AnswerStep::SendAck => fields(17, opcode, length, 0, 0),
+        AnswerStep::SendLengthLow => fields(11, opcode, size, 0, 0),
+        AnswerStep::SendLengthHigh => fields(12, opcode, size, 0, 0),
+        AnswerStep::TakeGo => fields(13, opcode, size, 0, 0),
+        AnswerStep::SendAnswer(place) => fields(14, opcode, size, place, 0),
+        AnswerStep::TakeCrcLow => fields(15, opcode, size, 0, 0),
+        AnswerStep::TakeCrcHigh(low) => fields(16, opcode, size, 0, low),
+        AnswerStep::SendAck => fields(17, opcode, size, 0, 0),
     }
 }
 
@@ -86,8 +86,8 @@ fn numbers_of(step: Step) -> Numbers
     match step {
         Step::Greeting(place) => fields(0, 0, 0, place, 0),
         Step::Header(inner) => header_numbers(inner),
-        Step::Command(opcode, length, inner) => command_numbers(number_of(opcode), length, inner),
-        Step::Answer(opcode, length, inner) => answer_numbers(number_of(opcode), length, inner),
+        Step::Command(opcode, size, inner) => command_numbers(number_of(opcode), size, inner),
+        Step::Answer(opcode, size, inner) => answer_numbers(number_of(opcode), size, inner),
         Step::Refusal => fields(18, 0, 0, 0, 0),
         Step::Running(address) => fields(19, number_of(Opcode::Run), 0, 0, address.0),
     }
@@ -153,20 +153,20 @@ fn payload_in(opcode: Opcode, phase: u32, size: u32, place: u32) -> Found
 fn command_in(work: usize, opcode: Opcode, n: Numbers) -> Found
     ensures { λ r. ⌜ r ≡ commandIn work opcode n ⌝ }
 {
-    let length = n.length;
-    if !has_length(opcode, length as usize) {
+    let size = n.length;
+    if !has_length(opcode, size as usize) {
         return Found::Unsound;
     }
-    if work < (length as usize) {
+    if work < (size as usize) {
         return Found::Unsound;
     }
     if n.phase == 5 {
-        return Found::At(Step::Command(opcode, length, CommandStep::SendAck));
+        return Found::At(Step::Command(opcode, size, CommandStep::SendAck));
     }
-    if length == 0 {
+    if size == 0 {
         return Found::Unsound;
     }
-    payload_in(opcode, n.phase, length, n.place)
+    payload_in(opcode, n.phase, size, n.place)
 }
 
 // The steps of an answer; any other phase is the last of them.
@@ -174,15 +174,15 @@ fn answer_step_in(opcode: Opcode, n: Numbers) -> Found
     ensures { λ r. ⌜ r ≡ answerStepIn opcode n ⌝ }
 {
     let phase = n.phase;
-    let length = n.length;
+    let size = n.length;
     match phase {
-        11 => Found::At(Step::Answer(opcode, length, AnswerStep::SendLengthLow)),
-        12 => Found::At(Step::Answer(opcode, length, AnswerStep::SendLengthHigh)),
-        13 => Found::At(Step::Answer(opcode, length, AnswerStep::TakeGo)),
-        14 => Found::At(Step::Answer(opcode, length, AnswerStep::SendAnswer(n.place))),
-        15 => Found::At(Step::Answer(opcode, length, AnswerStep::TakeCrcLow)),
-        16 => Found::At(Step::Answer(opcode, length, AnswerStep::TakeCrcHigh(n.held))),
-        _ => Found::At(Step::Answer(opcode, length, AnswerStep::SendAck)),
+        11 => Found::At(Step::Answer(opcode, size, AnswerStep::SendLengthLow)),
+        12 => Found::At(Step::Answer(opcode, size, AnswerStep::SendLengthHigh)),
+        13 => Found::At(Step::Answer(opcode, size, AnswerStep::TakeGo)),
+        14 => Found::At(Step::Answer(opcode, size, AnswerStep::SendAnswer(n.place))),
+        15 => Found::At(Step::Answer(opcode, size, AnswerStep::TakeCrcLow)),
+        16 => Found::At(Step::Answer(opcode, size, AnswerStep::TakeCrcHigh(n.held))),
+        _ => Found::At(Step::Answer(opcode, size, AnswerStep::SendAck)),
     }
 }
 
