@@ -6,10 +6,10 @@ use wire::range::Place;
 use wire::unit::FlashOffset;
 use wire::unit::RamAddress;
 
-fn line(memory: &[u8], length: usize, count: usize, start: u32, place: Place) {
+fn line(memory: &[u8], size: usize, count: usize, start: u32, place: Place) {
     text(memory);
     text(b" of ");
-    decimal(length as u64);
+    decimal(size as u64);
     text(b", ");
     decimal(count as u64);
     text(b" from ");
@@ -24,23 +24,23 @@ fn line(memory: &[u8], length: usize, count: usize, start: u32, place: Place) {
     text(b"\n");
 }
 
-fn ram(address: u32, count: usize, length: usize) {
+fn ram(address: u32, count: usize, size: usize) {
     line(
         b"RAM",
-        length,
+        size,
         count,
         address,
-        RamAddress(address).place(count, length),
+        RamAddress(address).place(count, size),
     );
 }
 
-fn flash(offset: u32, count: usize, length: usize) {
+fn flash(offset: u32, count: usize, size: usize) {
     line(
         b"flash",
-        length,
+        size,
         count,
         offset,
-        FlashOffset(offset).place(count, length),
+        FlashOffset(offset).place(count, size),
     );
 }
 
