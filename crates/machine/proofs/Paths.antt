@@ -16,7 +16,7 @@ use Rattle.machine.specs.Machine.{Need, acts, runs, Machine}
 use Rattle.machine.specs.Outcome.{Outcome, halt, acted, join}
 use Rattle.machine.specs.Call.{Call, offered, refused, act, call, calls}
 use Rattle.machine.specs.Uncut.{drainAt, drain, feed, uncut}
-use Rattle.machine.specs.History.{Event, Path, here, more, Came, trace, Leads}
+use Rattle.machine.specs.History.{Event, Way, here, more, Came, trace, Leads}
 use Rattle.machine.specs.Lawful.{Every, Kept, Lawful, Any}
 use Rattle.machine.specs.Claim.{Begins}
 use Rattle.machine.proofs.Outcomes.{join-assoc, halt-join, join-halt}
@@ -43,13 +43,13 @@ begins-drop front whole n b h = record { back = b .back; is = ap (drop n) (b .is
 module _ {A S : Type 0} (m : Machine A S) {Good : A → Type 0} {Sound : S → Type 0} (law : Lawful m Good Sound) (start : S) (stream : List A) where
   -- what every action keeps holds at the end of a path
   pub path-keeps : {P : List (Event A S) → S → Type 0} → Kept m Good P → Every Good stream → P [] start →
-      {events : List (Event A S)} {o : Outcome S} → Path m start stream events o → P events (o .final)
+      {events : List (Event A S)} {o : Outcome S} → Way m start stream events o → P events (o .final)
   path-keeps k w h here = h
   path-keeps k w h (more {events = events} {o = o} {views = views} {view = view} p e v l) =
       k events (o .final) view views e l (rw v (every-take Good views (drop (o .taken) stream) (every-drop Good (o .taken) stream w))) (path-keeps k w h p)
 
   -- no more is taken than there is
-  pub path-within : {events : List (Event A S)} {o : Outcome S} → Path m start stream events o → o .taken ≤ length stream
+  pub path-within : {events : List (Event A S)} {o : Outcome S} → Way m start stream events o → o .taken ≤ length stream
   path-within here = omega arith
   path-within (more {o = o} {views = views} {view = view} p e v l) =
       let left : length view ≤ length stream - o .taken = rw v (omega (arith, length-take views (drop (o .taken) stream), length-drop (o .taken) stream)) in
@@ -135,7 +135,7 @@ module _ {A S : Type 0} (m : Machine A S) {Good : A → Type 0} {Sound : S → T
       subst (λ (x : Outcome S). Came m start stream x) (join-assoc o p (calls m (p .final) (drop (p .taken) rest) cs)) (rw same at on)
 
   -- the uncut definition goes on from the end of every path
-  pub path-continues : Sound start → Every Good stream → {events : List (Event A S)} {o : Outcome S} → Path m start stream events o →
+  pub path-continues : Sound start → Every Good stream → {events : List (Event A S)} {o : Outcome S} → Way m start stream events o →
       uncut m start stream ≡ join o (uncut m (o .final) (drop (o .taken) stream))
   path-continues g w here = sym (halt-join start (uncut m start stream))
   path-continues g w (more {o = o} {views = views} {view = view} p e v l) =
@@ -230,13 +230,13 @@ module _ {A S : Type 0} (m : Machine A S) {Good : A → Type 0} {Sound : S → T
 
 -- a trace leads somewhere
 pub traced : {A S : Type 0} (m : Machine A S) (start : S) (stream : List A) (fuel : ℕ) (events : List (Event A S)) (o : Outcome S) →
-    Path m start stream events o → Leads m start stream (trace m fuel (m .need (o .final)) (o .final) (drop (o .taken) stream) events)
+    Way m start stream events o → Leads m start stream (trace m fuel (m .need (o .final)) (o .final) (drop (o .taken) stream) events)
 unfolding trace
 traced m start stream zero events o p = record { outcome = _; path = p }
 traced {A} {S} m start stream (suc fuel) events o p = go (m .need (o .final)) refl (traced m start stream fuel)
   where
     Later : Type 0
-    Later = (before : List (Event A S)) (q : Outcome S) → Path m start stream before q →
+    Later = (before : List (Event A S)) (q : Outcome S) → Way m start stream before q →
         Leads m start stream (trace m fuel (m .need (q .final)) (q .final) (drop (q .taken) stream) before)
 
     rest : List A

@@ -15,23 +15,23 @@ pub record Event (A S : Type 0) : Type 0 where
   pub view : List A
 
 -- from `start` on a stream, the events (the last one first) lead to an outcome
-pub data Path {A S : Type 0} (m : Machine A S) (start : S) (stream : List A) : List (Event A S) → Outcome S → Type 0 where
-  here : Path m start stream [] (halt start)
+pub data Way {A S : Type 0} (m : Machine A S) (start : S) (stream : List A) : List (Event A S) → Outcome S → Type 0 where
+  here : Way m start stream [] (halt start)
   more : {events : List (Event A S)} {o : Outcome S} {views : ℕ} {view : List A} →
-      Path m start stream events o → m .need (o .final) ≡ acts views →
+      Way m start stream events o → m .need (o .final) ≡ acts views →
       view ≡ take views (drop (o .taken) stream) → length view ≡ views →
-      Path m start stream (record { state = o .final; view = view } ∷ events)
+      Way m start stream (record { state = o .final; view = view } ∷ events)
       (join o (acted (m .says (o .final) view) (m .takes (o .final) view) (m .after (o .final) view)))
 
 -- some events lead there
 pub record Came {A S : Type 0} (m : Machine A S) (start : S) (stream : List A) (o : Outcome S) : Type 0 where
   pub events : List (Event A S)
-  pub path : Path m start stream events o
+  pub path : Way m start stream events o
 
 -- they lead somewhere
 pub record Leads {A S : Type 0} (m : Machine A S) (start : S) (stream : List A) (events : List (Event A S)) : Type 0 where
   pub outcome : Outcome S
-  pub path : Path m start stream events outcome
+  pub path : Way m start stream events outcome
 
 -- the events of at most so many actions on what is left of a stream, put before those so far; the room never ends
 unfoldable pub trace : {A S : Type 0} → Machine A S → (fuel : ℕ) → Need → S → (rest : List A) → List (Event A S) → List (Event A S)

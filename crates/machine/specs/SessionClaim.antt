@@ -5,7 +5,7 @@ use mathlib.Core.Path.{_≡_}
 use mathlib.Core.List.{List, [], map}
 use lib.ListN.{length, take, drop}
 use Rattle.machine.specs.Outcome.{Outcome}
-use Rattle.machine.specs.History.{Event, Path, Came}
+use Rattle.machine.specs.History.{Event, Way, Came}
 use Rattle.machine.specs.Lawful.{Every}
 use Rattle.machine.specs.Claim.{Begins}
 use Rattle.machine.specs.Session.{Session, Answer, sound, refused, answerOf}
@@ -60,7 +60,7 @@ module _ {A M S : Type 0} (σ : Session A M S) (Told : List (Event A S) → S �
     pub reads-as : σ .read (g .session) (g .memories) ≡ sound reached
     pub history : Came (σ .machine) start stream (record { replies = g .replies; taken = g .taken; final = reached })
     -- what the actions say holds wherever they lead: there, and at every state on the way
-    pub told : (events : List (Event A S)) (o : Outcome S) → Path (σ .machine) start stream events o → Told events (o .final)
+    pub told : (events : List (Event A S)) (o : Outcome S) → Way (σ .machine) start stream events o → Told events (o .final)
 
 -- Good: the symbols of a stream
 module _ {A M S : Type 0} (σ : Session A M S) (Good : A → Type 0) (Told : List (Event A S) → S → Type 0) (fresh : M → S) where
