@@ -131,6 +131,7 @@ typedef struct {
     size_t taken, sent;
     uint32_t reason;
     bool runs;
+    uint32_t address; /* where code runs; 0 if none does */
 } model_ending;
 
 /* Writes the memories. The caller frees `replies`. */

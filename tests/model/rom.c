@@ -12,6 +12,7 @@ static const uint32_t uses[LAST_PHASE + 1] = {
     [7] = USES(WORD_LENGTH) | USES(WORD_PLACE),
     [8] = USES(WORD_LENGTH),
     [9] = USES(WORD_LENGTH),
+    [11] = USES(WORD_HELD),
 };
 
 bool model_ram_length(size_t length)
@@ -28,7 +29,9 @@ static bool sound(const uint32_t s[WORDS], size_t ram_length)
         return false;
     if ((uses[phase] & USES(WORD_LENGTH)) && (s[WORD_LENGTH] == 0 || s[WORD_LENGTH] > ram_length))
         return false;
-    return !(uses[phase] & USES(WORD_PLACE)) || s[WORD_PLACE] < s[WORD_LENGTH];
+    if (phase == 11)
+        return has_place(s, 0) && runs_in_ram(s, ram_length);
+    return has_place(s, phase == 7 ? s[WORD_LENGTH] : 1);
 }
 
 static uint8_t xor_of(const uint8_t *code, size_t length)
@@ -73,6 +76,7 @@ static uint32_t follow(uint32_t *s, model_line *l, const model_memories *m)
             SEND(8, xor_of(m->ram, s[WORD_LENGTH]));
             TAKE(9, b);
             if (b == ACK) {
+                s[WORD_HELD] = RAM_BASE;
                 s[WORD_PHASE] = 11;
                 return RUNS;
             }

@@ -22,7 +22,7 @@ static const uint32_t uses[LAST_PHASE + 1] = {
     [15] = USES_COMMAND,
     [16] = USES_COMMAND | USES(WORD_HELD),
     [17] = USES_COMMAND,
-    [19] = USES(WORD_HELD),
+    [19] = USES(WORD_OPCODE) | USES(WORD_HELD),
 };
 
 bool model_work_length(size_t length)
@@ -36,23 +36,30 @@ void model_fresh(uint32_t kind, uint32_t record[WORDS])
     record[WORD_KIND] = kind;
 }
 
+/* How many bytes the phase takes or sends. */
+static uint32_t bytes_of(const uint32_t s[WORDS])
+{
+    switch (s[WORD_PHASE]) {
+    case 0: return sizeof greeting;
+    case 6:
+    case 14: return s[WORD_LENGTH];
+    case 19: return 0;
+    default: return 1;
+    }
+}
+
 static bool sound(const uint32_t s[WORDS], const model_memories *m)
 {
     uint32_t phase = s[WORD_PHASE], opcode = s[WORD_OPCODE], length = s[WORD_LENGTH];
-    if (s[WORD_KIND] != KIND_UARTBOOT || phase > LAST_PHASE)
+    if (s[WORD_KIND] != KIND_UARTBOOT || phase > LAST_PHASE || !has_place(s, bytes_of(s)))
         return false;
-    if (phase == 0)
-        return s[WORD_PLACE] < sizeof greeting;
-    if (phase == 19)
-        return s[WORD_HELD] >= RAM_BASE && s[WORD_HELD] - RAM_BASE < m->ram_length;
-    if (phase < 5 || phase == 18)
+    if (phase < 5 || phase == 18) /* neither opcode nor length counts */
         return true;
-    if (length > m->work_length)
+    if (phase == 19)
+        return opcode == OP_RUN && runs_in_ram(s, m->ram_length);
+    if (length > m->work_length || (length == 0 && phase != 5))
         return false;
-    bool of_opcode = phase <= 10 ? model_has_length(opcode, length) : model_has_answer(opcode);
-    if (!of_opcode || (length == 0 && phase != 5))
-        return false;
-    return !(uses[phase] & USES(WORD_PLACE)) || s[WORD_PLACE] < length;
+    return phase <= 10 ? model_has_length(opcode, length) : model_has_answer(opcode);
 }
 
 static uint32_t header_reason(uint32_t opcode, uint64_t length, size_t work_length)

@@ -44,6 +44,12 @@ static unsigned take_both(visit *v)
     return low | (unsigned)take(v) << 8;
 }
 
+static void run(visit *v, uint32_t address)
+{
+    v->ending.runs = true;
+    v->ending.address = address;
+}
+
 static void refuse(visit *v, uint32_t reason)
 {
     v->ending.reason = reason;
@@ -75,7 +81,7 @@ static void load(visit *v, uint32_t kind)
         x ^= v->memories->ram[i] = take(v);
     send(v, x);
     if (take(v) == ACK)
-        v->ending.runs = true;
+        run(v, RAM_BASE);
     else
         v->ending.reason = 34;
 }
@@ -135,7 +141,8 @@ static void command(visit *v)
         refuse(v, done.reason);
     else if (done.answer)
         answer(v, done.answer);
-    v->ending.runs = done.runs;
+    else if (done.runs)
+        run(v, done.address);
 }
 
 model_ending model_uncut(uint32_t kind, const uint8_t *stream, size_t length, const model_memories *memories)
