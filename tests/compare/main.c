@@ -24,8 +24,8 @@ static const case_kind kinds[] = {
     {"frame", 4, frame_case},
     {"ROM stream", 8, rom_stream_case},
     {"uartboot stream", 24, uartboot_stream_case},
-    {"ROM record", 6, rom_record_case},
-    {"uartboot record", 18, uartboot_record_case},
+    {"ROM record", 10, rom_record_case},
+    {"uartboot record", 20, uartboot_record_case},
     {"length", 2, length_case},
 };
 

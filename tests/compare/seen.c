@@ -17,6 +17,12 @@ typedef struct {
     int numbers[24]; /* ends with -1 */
 } wanted;
 
+#define PHASES_P {0, 1, 2, 3, 6, 7, 8, 9, 10, 11, -1}
+#define PHASES_E {0, 1, 2, 3, 4, 5, 6, 7, 8, 9, 10, 11, -1}
+#define PHASES_UARTBOOT {0, 1, 2, 3, 4, 5, 6, 7, 8, 9, 10, 11, 12, 13, 14, 15, 16, 17, 18, 19, -1}
+#define IN_RAM {ADDRESS_FIRST, ADDRESS_LAST, ADDRESS_OTHER, -1}
+#define OUTSIDE {ADDRESS_BEFORE, ADDRESS_BEHIND, ADDRESS_HIGHEST, ADDRESS_OTHER, -1}
+
 static const wanted all[SEENS] = {
     [SEEN_RANK_NUMBER] = {"number of a rank", {0, 61, -1}},
     [SEEN_ORDER_NUMBER] = {"number of an order", {0, 61, -1}},
@@ -32,11 +38,31 @@ static const wanted all[SEENS] = {
     [SEEN_RULE] = {"rule of an image", {0, 1, 2, 3, 4, 5, 6, 7, -1}},
     [SEEN_COMMAND_OPCODE] = {"opcode of a command", {1, 2, 3, 4, 5, 8, 11, 12, 18, -1}},
     [SEEN_REASON] = {"reason", {0, 11, 12, 13, 14, 15, 16, 17, 18, 19, 20, 31, 32, 33, 34, -1}},
-    [SEEN_ROM_P] = {"phase of kind P", {0, 1, 2, 3, 6, 7, 8, 9, 10, 11, -1}},
-    [SEEN_ROM_E] = {"phase of kind E", {0, 1, 2, 3, 4, 5, 6, 7, 8, 9, 10, 11, -1}},
-    [SEEN_UARTBOOT] = {"phase of uartboot", {0, 1, 2, 3, 4, 5, 6, 7, 8, 9, 10, 11, 12, 13, 14, 15, 16, 17, 18, 19, -1}},
+    [SEEN_ROM_P] = {"phase of kind P", PHASES_P},
+    [SEEN_ROM_E] = {"phase of kind E", PHASES_E},
+    [SEEN_UARTBOOT] = {"phase of uartboot", PHASES_UARTBOOT},
     [SEEN_STANDING] = {"standing", {1, 2, 3, -1}},
     [SEEN_OPCODE] = {"opcode accepted", {1, 2, 3, 4, 5, 8, 11, 12, 18, -1}},
+    [SEEN_FIRST_PLACE_P] = {"the first place of kind P, phase", PHASES_P},
+    [SEEN_FIRST_PLACE_E] = {"the first place of kind E, phase", PHASES_E},
+    [SEEN_FIRST_PLACE_UARTBOOT] = {"the first place of uartboot, phase", PHASES_UARTBOOT},
+    [SEEN_LAST_PLACE_P] = {"the last place of kind P, phase", PHASES_P},
+    [SEEN_LAST_PLACE_E] = {"the last place of kind E, phase", PHASES_E},
+    [SEEN_LAST_PLACE_UARTBOOT] = {"the last place of uartboot, phase", PHASES_UARTBOOT},
+    [SEEN_PLACE_AT_END_P] = {"a place at the end of kind P, phase", PHASES_P},
+    [SEEN_PLACE_AT_END_E] = {"a place at the end of kind E, phase", PHASES_E},
+    [SEEN_PLACE_AT_END_UARTBOOT] = {"a place at the end of uartboot, phase", PHASES_UARTBOOT},
+    [SEEN_PLACE_BEYOND_P] = {"a place beyond the end of kind P, phase", PHASES_P},
+    [SEEN_PLACE_BEYOND_E] = {"a place beyond the end of kind E, phase", PHASES_E},
+    [SEEN_PLACE_BEYOND_UARTBOOT] = {"a place beyond the end of uartboot, phase", PHASES_UARTBOOT},
+    [SEEN_ADDRESS_ACCEPTED_P] = {"a running record of kind P with an address in RAM of class", IN_RAM},
+    [SEEN_ADDRESS_ACCEPTED_E] = {"a running record of kind E with an address in RAM of class", IN_RAM},
+    [SEEN_ADDRESS_ACCEPTED_UARTBOOT] = {"a running record of uartboot with an address in RAM of class", IN_RAM},
+    [SEEN_ADDRESS_REFUSED_P] = {"a running record of kind P with an address outside of RAM of class", OUTSIDE},
+    [SEEN_ADDRESS_REFUSED_E] = {"a running record of kind E with an address outside of RAM of class", OUTSIDE},
+    [SEEN_ADDRESS_REFUSED_UARTBOOT] = {"a running record of uartboot with an address outside of RAM of class", OUTSIDE},
+    [SEEN_RUNNING_ACCEPTED] = {"a running record with opcode", {5, -1}},
+    [SEEN_RUNNING_REFUSED] = {"a running record refused for its opcode", {0, 1, 2, 3, 4, 8, 11, 12, 18, -1}},
 };
 
 bool all_seen(void)

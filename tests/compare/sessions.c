@@ -1,5 +1,6 @@
 /* Cases of sessions: streams from a fresh record, given records, refused lengths. */
 #include "fill.h"
+#include "records.h"
 #include "streams.h"
 #include "undalisho.h"
 #include "visit.h"
@@ -97,58 +98,17 @@ void uartboot_stream_case(trial *t)
     stream_case(t, KIND_UARTBOOT);
 }
 
-static uint32_t any_number(trial *t, const visit *v)
-{
-    const model_memories *m = &v->start.contents;
-    uint64_t edges[] = {0, 7, m->work_length, m->ram_length, 256, 65536, 0xFFFFFFFF, RAM_BASE, RAM_BASE + m->ram_length};
-    if (once_in(t->c, 2))
-        return pick(t->c, 24);
-    return (uint32_t)near_edges(t->c, edges, sizeof edges / sizeof *edges);
-}
-
-/* Words that are often a sound record, and often nearly one. */
-static void make_record(trial *t, visit *v, uint32_t last_phase)
-{
-    uint32_t *r = v->start.record;
-    bool uartboot = v->start.kind == KIND_UARTBOOT;
-    r[WORD_KIND] = once_in(t->c, 20) ? any_number(t, v) : v->start.kind;
-    r[WORD_PHASE] = once_in(t->c, 20) ? any_number(t, v) : pick(t->c, last_phase + 1);
-    r[WORD_OPCODE] = any_number(t, v);
-    r[WORD_LENGTH] = any_number(t, v);
-    r[WORD_PLACE] = once_in(t->c, 4) ? r[WORD_LENGTH] - 1 + pick(t->c, 2) : any_number(t, v);
-    r[WORD_HELD] = once_in(t->c, 2) ? pick(t->c, 256) : any_number(t, v);
-    r[WORD_REASON] = any_number(t, v);
-    r[WORD_SPARE] = any_number(t, v);
-    if (uartboot && !once_in(t->c, 4)) {
-        static planned p;
-        plan_command(t, &p, &v->start.contents);
-        r[WORD_OPCODE] = p.opcode;
-        r[WORD_LENGTH] = p.length;
-        if (p.length <= v->start.contents.work_length)
-            memcpy(v->start.contents.work, p.payload, p.length);
-    }
-}
-
-static bool accepted(const visit *v)
-{
-    uint32_t record[WORDS];
-    model_line nothing = {0};
-    memcpy(record, v->start.record, sizeof record);
-    model_report r = v->start.kind == KIND_UARTBOOT ? model_uartboot_call(record, &nothing, &v->start.contents)
-                                                    : model_rom_call(record, &nothing, &v->start.contents);
-    return r.number == 0;
-}
-
 static void record_case(trial *t, uint32_t kind, uint32_t last_phase)
 {
     stream s = {0};
     visit v = {.start.kind = kind};
     v.start.contents = first_memories(t, kind);
-    make_record(t, &v, last_phase);
+    draw_record(t, &v.start, last_phase);
+    note_record(&v.start);
     const uint32_t *r = v.start.record;
     tell(t, "record: %u %u %u %u %u %u %u %u\n", r[0], r[1], r[2], r[3], r[4], r[5], r[6], r[7]);
     v.alters = once_in(t->c, 5);
-    if (accepted(&v)) {
+    if (is_accepted(&v.start)) {
         make_stream(t, &v, &s, pick(t->c, 3));
     } else {
         for (uint32_t left = pick(t->c, 20); left > 0; left--)

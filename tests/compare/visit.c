@@ -1,4 +1,5 @@
 #include "visit.h"
+#include "records.h"
 
 #include <stdlib.h>
 #include <string.h>
@@ -12,7 +13,7 @@ typedef struct {
     size_t capacity, taken, sent;
     uint32_t record[WORDS];
     bool has_record, runs;
-    uint32_t reason;
+    uint32_t reason, address;
 } ending;
 
 /* The most that a call is shown and the most room that it has; 0 in `piece` means all. */
@@ -42,10 +43,11 @@ static void refused_call(trial *t, desk *d, const uint8_t *input, size_t left)
     uint32_t record[WORDS];
     const uint8_t *reply;
     memcpy(record, d->record, sizeof record);
-    switch (pick(t->c, d->kind == KIND_UARTBOOT ? 4 : 2)) {
+    switch (pick(t->c, d->kind == KIND_UARTBOOT ? 5 : 3)) {
     case 0: d->record[WORD_PHASE] = d->model_record[WORD_PHASE] = 200 + pick(t->c, 9); break;
-    case 1: d->library.ram_length = d->model.ram_length = 0; break;
-    case 2: d->library.flash_length = d->model.flash_length /= 4097; break;
+    case 1: d->record[WORD_PLACE] = d->model_record[WORD_PLACE] = places_of(d->model_record) + pick(t->c, 3); break;
+    case 2: d->library.ram_length = d->model.ram_length = 0; break;
+    case 3: d->library.flash_length = d->model.flash_length /= 4097; break;
     default: d->library.work_length = d->model.work_length %= LEAST_WORK; break;
     }
     model_report got = desk_call(t, d, input, left < 9 ? left : 9, 9, &reply);
@@ -104,6 +106,7 @@ static void run_cut(trial *t, const visit *v, desk *d, const cut *how, ending *e
     memcpy(e->record, d->record, sizeof e->record);
     e->runs = v->start.kind == KIND_UARTBOOT ? e->record[WORD_PHASE] == 19 : e->record[WORD_PHASE] == 11;
     e->reason = e->record[WORD_REASON];
+    e->address = e->runs ? e->record[WORD_HELD] : 0;
     e->has_record = true;
 }
 
@@ -113,6 +116,7 @@ static void same_ending(trial *t, const ending *got, const desk *d, const ending
     same_number(t, "all sent", got->sent, want->sent);
     same_number(t, "last reason", got->reason, want->reason);
     same_number(t, "running", got->runs, want->runs);
+    same_number(t, "address at which code runs", got->address, want->address);
     if (!differs(t))
         same_bytes(t, "joined replies", got->replies, want->replies, want->sent);
     for (int word = 0; word < WORDS && want->has_record; word++)
@@ -132,6 +136,7 @@ static void expect(const visit *v, ending *e, model_memories *memories)
     e->taken = whole.taken;
     e->reason = whole.reason;
     e->runs = whole.runs;
+    e->address = whole.address;
 }
 
 static bool lengths_accepted(const visit *v)

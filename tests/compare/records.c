@@ -1,0 +1,196 @@
+#include "records.h"
+#include "fill.h"
+#include "seen.h"
+#include "streams.h"
+
+#include <string.h>
+
+uint32_t places_of(const uint32_t record[WORDS])
+{
+    bool uartboot = record[WORD_KIND] == KIND_UARTBOOT;
+    uint32_t phase = record[WORD_PHASE];
+    if (uartboot && phase == 0)
+        return 4;
+    bool many = uartboot ? phase == 6 || phase == 14 : phase == 7;
+    return many ? record[WORD_LENGTH] : 1;
+}
+
+static uint32_t running_phase(uint32_t kind)
+{
+    return kind == KIND_UARTBOOT ? 19 : 11;
+}
+
+static bool is_running(const uint32_t record[WORDS])
+{
+    return record[WORD_PHASE] == running_phase(record[WORD_KIND]);
+}
+
+static uint32_t any_number(trial *t, const model_memories *m)
+{
+    uint64_t edges[] = {0, 7, m->work_length, m->ram_length, 256, 65536, 0xFFFFFFFF, RAM_BASE, RAM_BASE + m->ram_length};
+    if (once_in(t->c, 2))
+        return pick(t->c, 24);
+    return (uint32_t)near_edges(t->c, edges, sizeof edges / sizeof *edges);
+}
+
+/* One that the phase has; or one of the first, or at its end; or any. */
+static uint32_t draw_place(trial *t, const setting *s)
+{
+    uint32_t places = places_of(s->record), edges[] = {0, 1, places - 1, places, places + 1}, how = pick(t->c, 6);
+    if (how < 3)
+        return pick(t->c, places < 24 || once_in(t->c, 2) ? places : 24);
+    return how < 5 ? PICK_OF(t->c, edges) : any_number(t, &s->contents);
+}
+
+/* A command, with its payload. */
+static void draw_command(trial *t, setting *s)
+{
+    static planned p;
+    plan_command(t, &p, &s->contents);
+    s->record[WORD_OPCODE] = p.opcode;
+    s->record[WORD_LENGTH] = p.length;
+    if (p.length <= s->contents.work_length)
+        memcpy(s->contents.work, p.payload, p.length);
+}
+
+/* The length of an answer or a code: 1 to 24, or at the ends of what it may have. */
+static void draw_length(trial *t, setting *s, uint64_t most)
+{
+    uint64_t edges[] = {1, most, 7, 256};
+    uint64_t length = once_in(t->c, 4) ? near_edges(t->c, edges, sizeof edges / sizeof *edges) : 1 + pick(t->c, 24);
+    s->record[WORD_LENGTH] = (uint32_t)length;
+}
+
+/* An answer, which may be longer than the memory that it came from. */
+static void draw_answer(trial *t, setting *s)
+{
+    static const uint8_t opcodes[] = {OP_READ, OP_READ_QSPI, OP_VERSION};
+    s->record[WORD_OPCODE] = PICK_OF(t->c, opcodes);
+    draw_length(t, s, s->contents.work_length);
+}
+
+/* Often Run; else another command, a number that only ends in Run's byte, or what was drawn. */
+static void draw_run(trial *t, setting *s)
+{
+    static const uint8_t others[] = {OP_WRITE,     OP_READ,    OP_COPY,       OP_ERASE,
+                                     OP_READ_QSPI, OP_VERSION, OP_CHIP_ERASE, OP_DIRECT_WRITE};
+    static const uint32_t nearly[] = {0x105, 0x10005, 0x80000005};
+    uint32_t how = pick(t->c, 8);
+    if (how < 4)
+        s->record[WORD_OPCODE] = OP_RUN;
+    else if (how < 7)
+        s->record[WORD_OPCODE] = how < 6 ? PICK_OF(t->c, others) : PICK_OF(t->c, nearly);
+}
+
+/* Often in RAM; else at its ends, beside them, near 2^32, or what was drawn. */
+static void draw_address(trial *t, setting *s)
+{
+    uint32_t length = (uint32_t)s->contents.ram_length, end = RAM_BASE + length, how = pick(t->c, 4);
+    uint32_t edges[] = {RAM_BASE, end - 1, RAM_BASE - 1, end, 0, 0xFFFFFFFF, 0xFFFFFFFF - pick(t->c, 32)};
+    if (how < 1)
+        s->record[WORD_HELD] = RAM_BASE + pick(t->c, length);
+    else if (how < 3)
+        s->record[WORD_HELD] = PICK_OF(t->c, edges);
+}
+
+/* Opcode, length and held as the phase has them, mostly. */
+static void draw_step(trial *t, setting *s)
+{
+    bool uartboot = s->kind == KIND_UARTBOOT;
+    uint32_t phase = s->record[WORD_PHASE];
+    if (phase == running_phase(s->kind)) {
+        draw_run(t, s);
+        draw_address(t, s);
+    } else if (!uartboot) {
+        draw_length(t, s, s->contents.ram_length);
+    } else if (phase > 10 && !once_in(t->c, 4)) {
+        draw_answer(t, s);
+    } else {
+        draw_command(t, s);
+    }
+}
+
+static uint32_t draw_phase(trial *t, const setting *s, uint32_t last)
+{
+    if (once_in(t->c, 20))
+        return any_number(t, &s->contents);
+    return once_in(t->c, 10) ? running_phase(s->kind) : pick(t->c, last + 1);
+}
+
+void draw_record(trial *t, setting *s, uint32_t last_phase)
+{
+    uint32_t *r = s->record;
+    const model_memories *m = &s->contents;
+    r[WORD_KIND] = once_in(t->c, 20) ? any_number(t, m) : s->kind;
+    r[WORD_PHASE] = draw_phase(t, s, last_phase);
+    r[WORD_OPCODE] = any_number(t, m);
+    r[WORD_LENGTH] = any_number(t, m);
+    r[WORD_HELD] = once_in(t->c, 2) ? pick(t->c, 256) : any_number(t, m);
+    r[WORD_REASON] = any_number(t, m);
+    r[WORD_SPARE] = any_number(t, m);
+    if (!once_in(t->c, 5))
+        draw_step(t, s);
+    r[WORD_PLACE] = draw_place(t, s);
+}
+
+bool is_accepted(const setting *s)
+{
+    uint32_t record[WORDS];
+    model_line nothing = {0};
+    memcpy(record, s->record, sizeof record);
+    model_report r = s->kind == KIND_UARTBOOT ? model_uartboot_call(record, &nothing, &s->contents)
+                                              : model_rom_call(record, &nothing, &s->contents);
+    return r.number == 0;
+}
+
+/* Whether the record would be accepted with another number in one word. */
+static bool is_accepted_with(const setting *s, int word, uint32_t number)
+{
+    setting other = *s;
+    other.record[word] = number;
+    return is_accepted(&other);
+}
+
+static void note_place(const setting *s, bool accepted)
+{
+    uint32_t phase = s->record[WORD_PHASE], place = s->record[WORD_PLACE], places = places_of(s->record);
+    if (!is_accepted_with(s, WORD_PLACE, 0))
+        return;
+    if (accepted && place == 0)
+        seen(SEEN_FIRST_PLACE_P + s->kind, phase);
+    if (accepted && place == places - 1)
+        seen(SEEN_LAST_PLACE_P + s->kind, phase);
+    if (!accepted)
+        seen((place == places ? SEEN_PLACE_AT_END_P : SEEN_PLACE_BEYOND_P) + s->kind, phase);
+}
+
+static void note_address(const setting *s, bool accepted)
+{
+    int64_t length = (int64_t)s->contents.ram_length, byte = (int64_t)s->record[WORD_HELD] - RAM_BASE;
+    if (!is_accepted_with(s, WORD_HELD, RAM_BASE))
+        return;
+    seen_address what = byte == 0                             ? ADDRESS_FIRST
+                        : byte == length - 1                  ? ADDRESS_LAST
+                        : byte == -1                          ? ADDRESS_BEFORE
+                        : byte == length                      ? ADDRESS_BEHIND
+                        : s->record[WORD_HELD] >= 0xFFFFFFE0u ? ADDRESS_HIGHEST
+                                                              : ADDRESS_OTHER;
+    seen((accepted ? SEEN_ADDRESS_ACCEPTED_P : SEEN_ADDRESS_REFUSED_P) + s->kind, what);
+}
+
+static void note_opcode(const setting *s, bool accepted)
+{
+    uint32_t opcode = s->record[WORD_OPCODE];
+    if (s->kind == KIND_UARTBOOT && is_accepted_with(s, WORD_OPCODE, OP_RUN))
+        seen(accepted ? SEEN_RUNNING_ACCEPTED : SEEN_RUNNING_REFUSED, model_known(opcode) ? opcode : 0);
+}
+
+void note_record(const setting *s)
+{
+    bool accepted = is_accepted(s);
+    note_place(s, accepted);
+    if (is_running(s->record)) {
+        note_address(s, accepted);
+        note_opcode(s, accepted);
+    }
+}
