@@ -250,7 +250,7 @@ und_product_header und_make_product_header(uint32_t first, uint32_t second);
  *
  *     UND_WANTS_BYTE  it must take a byte, and all of the input is taken
  *     UND_WANTS_ROOM  it must send a byte, and the reply is full
- *     UND_RUNS        code runs; nothing is taken or sent any more
+ *     UND_RUNS        code runs, at the address in record[UND_RECORD_HELD]; nothing is taken or sent any more
  *
  * It took the input's first `taken` bytes; the others are shown to the next call again, before any newer ones. What is
  * to be sent are the reply's first `sent` bytes; those past them keep their contents. How the stream is cut into calls,
@@ -310,13 +310,16 @@ typedef struct {
     size_t sent;       /* how many bytes of the reply */
 } und_report;
 
-/* A record's words. C may read them, and hands them back as they came. Those that a phase does not use are 0. */
+/* A record's words. C may read them, and hands them back as they came. Those that a phase does not use are 0. A call
+ * looks at the place in every phase, and refuses a record with a place that its phase does not have; it does not look
+ * at other words that a phase does not use.
+ */
 enum {
     UND_RECORD_KIND = 0,   /* UND_KIND_P, UND_KIND_E or UND_KIND_UARTBOOT */
     UND_RECORD_PHASE = 1,  /* what the session does next: see the tables of phases below */
     UND_RECORD_OPCODE = 2, /* uartboot: the command's */
     UND_RECORD_LENGTH = 3, /* of the code, the payload or the answer */
-    UND_RECORD_PLACE = 4,  /* of the next byte there, or of the greeting, from 0 */
+    UND_RECORD_PLACE = 4,  /* of the next byte there, or of the greeting, from 0; 0 in all other phases */
     UND_RECORD_HELD = 5,   /* the low byte of a number whose high byte comes next, or the address at which code runs */
     UND_RECORD_REASON = 6, /* the last reason, 0 at first */
     UND_RECORD_WORDS = 8   /* how many words there are; word 7 is 0 */
@@ -343,10 +346,10 @@ enum {
  *     4      takes the low byte of the extended length (E only)
  *     5      takes the high byte of the extended length (E only)     held
  *     6      sends 06                                                length
- *     7      takes code                                              length, place
+ *     7      takes code                                              length, place (below the length)
  *     8, 9   sends the XOR, takes the byte after it                  length
  *     10     sends 15
- *     11     runs the code
+ *     11     runs the code                                           held (the address)
  */
 
 /* Writes the record of a new receiver, all eight words. The kind is UND_KIND_P or UND_KIND_E; und_rom_call refuses a
@@ -359,8 +362,9 @@ void und_rom_fresh(uint32_t kind, uint32_t record[8]);
  * Number:  0
  *          2   ram_len is not a length that RAM may have
  *          4   the record is unsound: an unknown kind, a phase that the kind does not have, in phases 6 to 9 a length
- *              that is 0 or above ram_len, in phase 7 a place that is not below the length. A record of kind P or E
- *              that was handed out for a RAM of this length is never refused.
+ *              that is 0 or above ram_len, in phase 7 a place that is not below the length, in any other phase one that
+ *              is not 0, in phase 11 an address outside of RAM. A record of kind P or E that was handed out for a RAM of
+ *              this length is never refused.
  * Writes:  the record; the reply's first `sent` bytes; the code bytes that it took, in RAM
  */
 und_report und_rom_call(uint32_t record[8], const uint8_t *input, size_t input_len, uint8_t *reply, size_t reply_len,
@@ -391,22 +395,22 @@ und_report und_rom_call(uint32_t record[8], const uint8_t *input, size_t input_l
  *     12  Direct write  verify 1, flash offset 4, data 1 or more    stores in flash, and compares if verify is 1
  *
  *     phase    uartboot                                              words used
- *     0        sends 02 01 00 03                                     place
+ *     0        sends 02 01 00 03                                     place (below 4)
  *     1, 2     drops bytes until 01, takes the opcode
  *     3        takes the low byte of the length                      opcode
  *     4        takes the high byte of the length                     opcode, held
  *     5        sends the header's 06                                 opcode, length (of the payload)
- *     6        takes the payload                                     opcode, length, place
+ *     6        takes the payload                                     opcode, length, place (below the length)
  *     7, 8, 9  sends the payload's 06, its CRC's low and high byte   opcode, length
  *     10       takes the byte on which the command is executed       opcode, length
  *     11, 12   sends the answer's length, low and high byte          opcode, length (of the answer)
  *     13       takes 06                                              opcode, length
- *     14       sends the answer                                      opcode, length, place
+ *     14       sends the answer                                      opcode, length, place (below the length)
  *     15       takes the low byte of the host's CRC                  opcode, length
  *     16       takes its high byte                                   opcode, length, held
  *     17       sends 06                                              opcode, length
  *     18       sends 15
- *     19       runs code                                             held (the address)
+ *     19       runs code                                             opcode (05), held (the address)
  */
 
 /* The opcodes. */
@@ -452,9 +456,9 @@ void und_uartboot_fresh(uint32_t record[8]);
  *          3   flash_len is not a length that flash may have
  *          4   the record is unsound: a kind that is not UND_KIND_UARTBOOT, an unknown phase, in phases 5 to 17 an
  *              unknown opcode, a phase or a payload length that the opcode does not have, a length above work_len or an
- *              answer of length 0, in phases 6 and 14 a place that is not below the length, in phase 0 one that is not
- *              below 4, in phase 19 an address outside of RAM. A record that was handed out for memories of these
- *              lengths is never refused.
+ *              answer of length 0, in phase 19 an opcode that is not UND_OP_RUN or an address outside of RAM, in phases
+ *              6 and 14 a place that is not below the length, in phase 0 one that is not below 4, in any other phase one
+ *              that is not 0. A record that was handed out for memories of these lengths is never refused.
  * Writes:  the record; the reply's first `sent` bytes; RAM, flash and work buffer as the commands say
  */
 und_report und_uartboot_call(uint32_t record[8], const uint8_t *input, size_t input_len, uint8_t *reply,

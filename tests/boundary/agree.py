@@ -1,8 +1,9 @@
 #!/usr/bin/env python3
-"""Whether undalisho.h, README.md, the Rattle sources and the archive have the same functions and structs.
+"""Whether undalisho.h, README.md, the Rattle sources and the archive have the same functions, structs and phases.
 
 agree.py ROOT ARCHIVE
 """
+import itertools
 import os
 import subprocess
 import sys
@@ -10,6 +11,7 @@ import tempfile
 from pathlib import Path
 
 import header_names
+import phases
 import quoted
 import signatures
 
@@ -19,6 +21,7 @@ GCC = ["gcc", "-Wall", "-Wextra", "-Wpedantic", "-Werror"]
 MACHINES = [["-m64"], ["-m32", "-ffreestanding"]]
 
 CLAIMS = [Path(__file__).with_name(name) for name in ("claims.c", "numbers.c")]
+PHASES = Path(__file__).with_name("phases.c")
 
 
 class Differs(Exception):
@@ -69,11 +72,25 @@ def check_readme(functions, structs, root, folder):
     check_header(functions, structs, header, "README.md")
 
 
+def run_over(include, archive, source, folder):
+    """What a program over the header and the archive says."""
+    program = str(folder / source.stem)
+    run("the header", [*GCC, "-std=c99", "-I", str(include), str(source), str(archive), "-o", program])
+    return run("the header", [program])
+
+
 def check_claims(include, archive, folder):
     for claims in CLAIMS:
-        program = str(folder / claims.stem)
-        run("the header", [*GCC, "-std=c99", "-I", str(include), str(claims), str(archive), "-o", program])
-        run("the header", [program])
+        run_over(include, archive, claims, folder)
+
+
+def check_phases(root, archive, folder):
+    """The words that a phase uses: in the header's tables, in README's and in the library."""
+    library = run_over(Path(root) / "include", archive, PHASES, folder).splitlines()
+    for where, lines in ("the header", phases.header_lines(root)), ("README.md", phases.readme_lines(root)):
+        for said, given in itertools.zip_longest(lines, library):
+            if said != given:
+                raise Differs(f"{where} has the phase '{said}', the library '{given}'")
 
 
 def agree(root, archive):
@@ -88,6 +105,7 @@ def agree(root, archive):
         check_archive(functions, archive)
         check_readme(functions, structs, root, Path(folder))
         check_claims(include, archive, Path(folder))
+        check_phases(root, archive, Path(folder))
     return len(functions), len(structs)
 
 
@@ -98,7 +116,7 @@ def main():
         functions, structs = agree(*sys.argv[1:])
     except Differs as differs:
         sys.exit(f"boundary: header, README, Rattle sources and archive do not agree:\n{differs}")
-    print(f"boundary: {functions} functions, {structs} structs agree in header, README, Rattle sources and archive")
+    print(f"boundary: {functions} functions, {structs} structs agree in header, README, Rattle sources and archive; phases too")
 
 
 if __name__ == "__main__":

@@ -1,4 +1,6 @@
-/* What undalisho.h says of lengths, kinds, standings, words, files, rules, line bytes and NULL, asked of the library. */
+/* What undalisho.h says of lengths, kinds, standings, words, places, addresses, files, rules, line bytes and NULL, asked of
+ * the library. phases.c asks which words each phase uses.
+ */
 #include "hold.h"
 #include "undalisho.h"
 
@@ -69,13 +71,42 @@ static void words(void)
     HOLD(record[UND_RECORD_REASON] == 11);
 }
 
+/* The number of a call with nothing to take, once a word of the record holds something else; the record is then as before. */
+static uint32_t number_once(int word, uint32_t value)
+{
+    uint32_t kept[UND_RECORD_WORDS], number;
+    und_report r;
+
+    memcpy(kept, record, sizeof kept);
+    record[word] = value;
+    r = record[UND_RECORD_KIND] == UND_KIND_UARTBOOT ? to_uartboot(NULL, 0)
+                                                     : und_rom_call(record, NULL, 0, NULL, 0, ram, UND_RAM_MAX);
+    number = r.number;
+    memcpy(record, kept, sizeof kept);
+    return number;
+}
+
+static void places(void)
+{
+    und_rom_fresh(UND_KIND_P, record);
+    HOLD(number_once(UND_RECORD_PLACE, 0) == 0 && number_once(UND_RECORD_PLACE, 1) == 4);
+    und_uartboot_fresh(record);
+    HOLD(number_once(UND_RECORD_PLACE, 3) == 0 && number_once(UND_RECORD_PLACE, 4) == 4);
+    to_uartboot(NULL, 0);
+    HOLD(record[UND_RECORD_PHASE] == 1 && number_once(UND_RECORD_PLACE, 0) == 0 && number_once(UND_RECORD_PLACE, 1) == 4);
+}
+
 static void first_address(void)
 {
+    static const uint8_t frame[] = {0x01, 0x01, 0x00, 0x11, 0x06};
     const uint8_t run[] = {0x01, 0x05, 0x04, 0x00, UND_RAM_FIRST & 0xFF, UND_RAM_FIRST >> 8 & 0xFF,
                            UND_RAM_FIRST >> 16 & 0xFF, UND_RAM_FIRST >> 24, 0x06};
 
+    HOLD(to_receiver(UND_KIND_E, frame, sizeof frame, sizeof reply).standing == UND_RUNS);
+    HOLD(record[UND_RECORD_HELD] == UND_RAM_FIRST && number_once(UND_RECORD_HELD, UND_RAM_FIRST - 1) == 4);
     und_uartboot_fresh(record);
     HOLD(to_uartboot(run, sizeof run).standing == UND_RUNS && record[UND_RECORD_HELD] == UND_RAM_FIRST);
+    HOLD(record[UND_RECORD_OPCODE] == UND_OP_RUN && number_once(UND_RECORD_OPCODE, UND_OP_WRITE) == 4);
 }
 
 /* An image with one byte of code, 00, whose CRC-32 is D202EF8D. */
@@ -153,6 +184,7 @@ int main(void)
     lengths();
     kinds_and_standings();
     words();
+    places();
     first_address();
     files();
     rules();

@@ -37,7 +37,7 @@ int main(void)
 
 #include "readme-loop.inc"
 
-    if (record[UND_RECORD_PHASE] != 11 || memcmp(ram, code, sizeof code) != 0)
+    if (record[UND_RECORD_PHASE] != 11 || record[5] != UND_RAM_FIRST || memcmp(ram, code, sizeof code) != 0)
         return fprintf(stderr, "readme_loop: the code does not run\n"), 1;
     if (line_len != sizeof replies || memcmp(line, replies, sizeof replies) != 0)
         return fprintf(stderr, "readme_loop: the host was sent other bytes\n"), 1;

@@ -1,0 +1,38 @@
+"""The tables of phases in undalisho.h and README.md: for each kind and phase a line with the words that it uses."""
+import re
+from pathlib import Path
+
+PHASES = r"(\d+(?:, \d+)*)"
+HEADER_ROW = rf" \*     {PHASES} +(.*?)(?:  +(.*))?"
+README_ROW = rf"\| {PHASES} \| (.*?) \| (.*?) ?\|"
+
+# What a table says of a word besides, where it tells nothing that a record shows.
+REMARKS = r" \((?:of the payload|of the answer|the address)\)"
+
+
+def rows(text, head, form):
+    """The rows below a table's head: phases, what the session does, words."""
+    found = []
+    for line in text[text.index(head):].split("\n")[1:]:
+        row = re.fullmatch(form, line)
+        if row:
+            found.append((row[1].split(", "), row[2], re.sub(REMARKS, "", row[3] or "")))
+        elif found:
+            break
+    return found
+
+
+def lines_of(receiver, uartboot):
+    table = [("P", row) for row in receiver if "(E only)" not in row[1]]
+    table += [("E", row) for row in receiver] + [("uartboot", row) for row in uartboot]
+    return [f"{kind} {phase}: {words}" for kind, (phases, _, words) in table for phase in phases]
+
+
+def header_lines(root):
+    text = Path(root, "include/undalisho.h").read_text()
+    return lines_of(*(rows(text, f" *     phase{name}", HEADER_ROW) for name in ("  the receiver", "    uartboot")))
+
+
+def readme_lines(root):
+    text = Path(root, "README.md").read_text()
+    return lines_of(*(rows(text, f"| Phase | {name} |", README_ROW) for name in ("The receiver", "uartboot")))
