@@ -40,7 +40,7 @@ class Load(bench.Case):
         self.assertEqual([event['event'] for event in seen], ROM)
         self.assertEqual([(event['from'], bytes.fromhex(event['bytes'])) for event in seen], sent)
         self.assertEqual([event['count'] for event in seen], [len(data) for _, data in sent])
-        self.assertIn('0x07FC0000', seen[-1]['words'])
+        self.assertIn('code runs at 0x07FC0000', seen[-1]['words'])
         self.assertEqual(player.events()[-1]['event'], 'end')
 
     def test_text(self):

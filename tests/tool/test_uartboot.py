@@ -36,7 +36,7 @@ class Uartboot(bench.Case):
         host.do(model.DIRECT_WRITE, model.store_payload(LENGTH - 4, b'last', 1))
         host.do(model.RUN, struct.pack('<I', RAM + 1000), greeted=False)
         self.player.wait()
-        self.assertIn('0x07FC03E8', self.player.named('acknowledgement')[-1]['words'])
+        self.assertIn('code runs at 0x07FC03E8', self.player.named('acknowledgement')[-1]['words'])
         self.assertEqual(self.content('ram'), host.memories.ram)
         self.assertEqual(self.content(self.flash), host.memories.flash)
 

@@ -64,7 +64,7 @@ static void add_outcome(text *t, uint32_t opcode, const uint32_t *after)
 {
     part next = phase_of(after).part;
     if (next == RUNNING)
-        text_add(t, "code runs at 0x%08X", is_uartboot(after) ? after[UND_RECORD_HELD] : UND_RAM_FIRST);
+        text_add(t, "code runs at 0x%08X", after[UND_RECORD_HELD]);
     else if (next == ANSWER_LENGTH)
         text_add(t, "%s, an answer follows", opcode_name(opcode));
     else
