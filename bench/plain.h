@@ -9,6 +9,9 @@
 /* The words of a record. The last one, which the library keeps 0, holds the payload's CRC between its two bytes. */
 enum { KIND, PHASE, OPCODE, LENGTH, PLACE, HELD, REASON, CRC };
 
+/* The address of RAM's first byte. */
+#define RAM_BASE 0x07FC0000u
+
 /* The bytes of the line. */
 enum { SOH = 0x01, STX = 0x02, ACK = 0x06, NAK = 0x15 };
 

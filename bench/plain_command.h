@@ -5,8 +5,6 @@
 #include <stddef.h>
 #include <stdint.h>
 
-#define RAM_BASE 0x07FC0000u
-
 enum { WRITE = 0x01, READ, COPY, ERASE, RUN, READ_QSPI = 0x08, VERSION = 0x0B, CHIP_ERASE = 0x0C, DIRECT_WRITE = 0x12 };
 
 typedef struct {

@@ -12,9 +12,13 @@ static int is_sound(const uint32_t *r, size_t ram_len)
         return 0;
     if (r[KIND] == 0 && (r[PHASE] == TAKE_EXTENDED_LOW || r[PHASE] == TAKE_EXTENDED_HIGH))
         return 0;
+    if (r[PLACE] != 0 && (r[PHASE] != TAKE_CODE || r[PLACE] >= r[LENGTH]))
+        return 0;
+    if (r[PHASE] == RUNNING)
+        return r[HELD] >= RAM_BASE && r[HELD] - RAM_BASE < ram_len;
     if (r[PHASE] < SEND_ACK || r[PHASE] > TAKE_ACK)
         return 1;
-    return r[LENGTH] != 0 && r[LENGTH] <= ram_len && (r[PHASE] != TAKE_CODE || r[PLACE] < r[LENGTH]);
+    return r[LENGTH] != 0 && r[LENGTH] <= ram_len;
 }
 
 static void refuse(uint32_t *r, uint32_t reason)
@@ -51,6 +55,7 @@ static void take_ack(uint32_t *r, uint8_t byte)
 {
     r[PHASE] = byte == ACK ? RUNNING : SEND_STX;
     r[REASON] = byte == ACK ? r[REASON] : 34;
+    r[HELD] = byte == ACK ? RAM_BASE : 0;
     r[LENGTH] = 0;
 }
 

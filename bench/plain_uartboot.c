@@ -15,17 +15,17 @@ static int is_sound(const uint32_t *r, const plain_memories *m)
         return 0;
     if (phase == GREETING)
         return r[PLACE] < 4;
+    if (r[PLACE] != 0 && ((phase != TAKE_PAYLOAD && phase != SEND_ANSWER) || r[PLACE] >= r[LENGTH]))
+        return 0;
     if (phase == RUNNING)
-        return r[HELD] >= RAM_BASE && r[HELD] - RAM_BASE < m->ram_len;
+        return r[OPCODE] == RUN && r[HELD] >= RAM_BASE && r[HELD] - RAM_BASE < m->ram_len;
     if (phase < SEND_ACK || phase == SEND_NAK)
         return 1;
     if (!plain_is_known(r[OPCODE]) || r[LENGTH] > m->work_len)
         return 0;
     if (phase <= TAKE_GO ? !plain_has_length(r[OPCODE], r[LENGTH]) : !plain_has_answer(r[OPCODE]))
         return 0;
-    if (r[LENGTH] == 0 && phase != SEND_ACK)
-        return 0;
-    return (phase != TAKE_PAYLOAD && phase != SEND_ANSWER) || r[PLACE] < r[LENGTH];
+    return r[LENGTH] != 0 || phase == SEND_ACK;
 }
 
 static void start_again(uint32_t *r, uint32_t phase, uint32_t reason)
@@ -44,6 +44,7 @@ static void execute(uint32_t *r, const plain_memories *m)
         start_again(r, SEND_NAK, reason);
     else if (r[OPCODE] == RUN) {
         start_again(r, RUNNING, r[REASON]);
+        r[OPCODE] = RUN;
         r[HELD] = address;
     } else if (answer == 0)
         start_again(r, GREETING, r[REASON]);
