@@ -403,16 +403,16 @@ def refused():
 
 
 def records():
-    """Records, sound and unsound, each number at its edges; those that a phase does not use are any."""
+    """Records, sound and unsound, each number at its edges; those that a phase does not use are any, but for the place."""
     host, any_number = chain("06", crc("ffff"), GET_VERSION), 4294967295
 
-    def handed(phase, opcode=any_number, length=any_number, place=any_number, held=any_number, kind=2):
+    def handed(phase, opcode=any_number, length=any_number, place=0, held=any_number, kind=2):
         words = "%d,%d,%d,%d,%d,%d,%d,%d" % (kind, phase, opcode, length, place, held, 77, 88)
         return Stream(None, host, ONE, words=words, flash="*4096")
 
     for kind in 0, 1, 3, any_number:
-        yield handed(0, place=0, kind=kind)
-        yield handed(19, held=A, kind=kind)
+        yield handed(0, kind=kind)
+        yield handed(19, RUN, held=A, kind=kind)
     for phase in 20, 21, 256, any_number:
         yield handed(phase, WRITE, 6, 0, A)
     for place in 0, 1, 3, 4, 5, any_number:
@@ -445,8 +445,20 @@ def records():
     for phase, opcode, length in (6, WRITE, 7), (6, COPY, 10), (14, READ, 7), (14, VERSION, 7), (14, READ_FLASH, 64):
         for place in 0, 1, length - 1, length, length + 1, any_number:
             yield handed(phase, opcode, length, place)
+    # one byte, or none where code runs: place 0 alone
+    for phase in 1, 2, 3, 4, 18:
+        for place in 0, 1, any_number:
+            yield handed(phase, WRITE, 6, place, 6)
+    for phase in 5, 7, 8, 9, 10, 11, 12, 13, 15, 16, 17:
+        for place in 1, 9, any_number:
+            yield handed(phase, COPY if phase < 11 else READ, 10, place, 6)
+    for place in 0, 1, 3, any_number:
+        yield handed(19, RUN, 4, place, A)
+    # where code runs: an address in RAM, and Run's opcode, whose length is any
     for address in A, A + 1, A + 15, A + 16, A - 1, 0, any_number, A + 65536:
-        yield handed(19, held=address)
+        yield handed(19, RUN, held=address)
+    for opcode in (0, *NUMBERS, 6, 261, 65541, any_number):
+        yield handed(19, opcode, 4, held=A + 15)
 
 
 def handed_in():
@@ -460,8 +472,8 @@ def handed_in():
         yield Stream(5, chain(host.get(phase, crc("0a0b0c")), GET_VERSION), FEW, work="0a0b0c0d,=60",
                      words="2,%d,2,3,0,%d,5,0" % (phase, int(crc("0a0b0c")[:2], 16)))
     yield Stream(5, crc("0a0b0c"), FEW, work="0a0b0c0d,=60", words="2,14,8,3,2,9,5,9")
-    yield Stream(5, chain("06", crc("0a0b0c0d")), FEW, work="0a0b0c0d,=60", words="2,11,11,4,9,9,5,9")
-    yield Stream(5, chain("06", crc("0a0b0c0d,=60")), FEW, work="0a0b0c0d,=60", words="2,13,11,64,9,9,5,9")
+    yield Stream(5, chain("06", crc("0a0b0c0d")), FEW, work="0a0b0c0d,=60", words="2,11,11,4,0,9,5,9")
+    yield Stream(5, chain("06", crc("0a0b0c0d,=60")), FEW, work="0a0b0c0d,=60", words="2,13,11,64,0,9,5,9")
     # a payload that was never judged, or is not as it was
     for opcode, payload, reason in (
             (WRITE, write(A + 15, "0a0b"), 16), (READ, some(A, 0), 15), (READ, some(A, 17), 16), (READ_FLASH, some(0, 65), 17),

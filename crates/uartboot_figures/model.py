@@ -183,7 +183,7 @@ class Session:
         yield NAK
 
     def running(self, address):
-        self.note(19, held=address)
+        self.note(19, RUN, held=address)
         while True:
             yield RUNS
 
@@ -255,19 +255,19 @@ class Session:
         return 0 if self.is_sound(*self.words[:6]) else 4
 
     def is_sound(self, kind, phase, opcode, length, place, held):
-        if kind != 2 or phase > 19:
+        # a phase takes or sends so many bytes, and one if it isn't named here; the place is that of the next
+        count = {0: 4, 6: length, 14: length, 19: 0}.get(phase, 1)
+        if kind != 2 or phase > 19 or (place > 0 and place >= count):
             return False
-        if phase == 0:
-            return place < 4
         if phase == 19:
-            return RAM_FIRST <= held < RAM_FIRST + len(self.ram)
+            return opcode == RUN and RAM_FIRST <= held < RAM_FIRST + len(self.ram)
         if phase < 5 or phase == 18:
             return True
         if phase <= 10:
             good = has_length(opcode, length) and (phase == 5 or length > 0)
         else:
             good = opcode in WITH_ANSWER and length > 0
-        return good and length <= len(self.work) and (place < length or phase not in (6, 14))
+        return good and length <= len(self.work)
 
     def call(self, data, room):
         """Number, bytes taken, the bytes sent, standing."""
