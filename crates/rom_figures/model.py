@@ -4,79 +4,135 @@
     python3 model.py --rows > stdin     the rows that the program reads
     python3 model.py > stdout           the same rows, each with what 01 answers
 """
+import functools
 import itertools
+import operator
 import sys
 
 # ---- the paper's rules
 
 TAKE, RUN = "take", "run"
+RAM_FIRST = 0x07FC0000
 
 
 class Session:
     """One session with one RAM. Its flow waits between calls where the last call left it."""
 
-    def __init__(self, kind, ram):
-        self.kind, self.ram, self.reason = kind, ram, 0
-        self.flow = self.actions()
-        self.action = next(self.flow)
+    def __init__(self, words, ram):
+        self.words, self.ram, self.flow = words, ram, None
 
-    def actions(self):
-        """The flow: it yields a byte to send, TAKE for the stream's next byte, or RUN once code runs."""
+    # -- the flow. It yields a byte to send, TAKE for the stream's next byte, or RUN once code runs. Before each it notes the step,
+    # as the record has it.
+
+    def note(self, phase, length=0, place=0, held=0):
+        self.step = [self.words[0], phase, 0, length, place, held]
+
+    def actions(self, phase, length, place, held):
+        """The flow from a record on; a fresh one is phase 0."""
         while True:
-            yield 0x02
-            code_length = yield from self.header()
-            if code_length == 0:
-                yield 0x15
-                continue
+            yield from self.load(phase, length, place, held)
+            phase = length = place = held = 0
+
+    def load(self, phase, length, place, held):
+        """What comes from this phase to the next 02."""
+        if phase == 11:
+            yield from self.running(held)
+        if phase <= 5:
+            length = yield from self.header(phase, held)
+        if phase == 10 or length == 0:
+            self.note(10)
+            yield 0x15
+            return
+        if phase <= 6:
+            self.note(6, length)
             yield 0x06
-            xor = 0x00
-            for i in range(code_length):
+        if phase <= 7:
+            for i in range(place if phase == 7 else 0, length):
+                self.note(7, length, i)
                 self.ram[i] = yield TAKE
-                xor ^= self.ram[i]
-            yield xor
-            if (yield TAKE) == 0x06:
-                break
-            self.reason = 34
-        while True:
-            yield RUN
+        if phase <= 8:
+            self.note(8, length)
+            yield functools.reduce(operator.xor, self.ram[:length], 0x00)
+        self.note(9, length)
+        if (yield TAKE) == 0x06:
+            yield from self.running(RAM_FIRST)
+        self.reason = 34
 
-    def header(self):
+    def header(self, phase, held):
         """The code's length, or 0 for a refused header."""
-        if (yield TAKE) != 0x01:
-            self.reason = 31
-            return 0
-        low = yield TAKE
-        length = low + ((yield TAKE) << 8)
-        if length == 0 and self.kind == 0:
-            self.reason = 32
-            return 0
-        if length == 0:
-            low = yield TAKE
-            length = 65536 + low + ((yield TAKE) << 8)
+        if phase == 0:
+            self.note(0)
+            yield 0x02
+        if phase <= 1:
+            self.note(1)
+            if (yield TAKE) != 0x01:
+                self.reason = 31
+                return 0
+        if phase <= 2:
+            self.note(2)
+            held = yield TAKE
+        if phase <= 3:
+            self.note(3, held=held)
+            length = held + ((yield TAKE) << 8)
+            if length == 0 and self.words[0] == 0:
+                self.reason = 32
+                return 0
+            if length > 0:
+                return self.judged(length)
+        if phase <= 4:
+            self.note(4)
+            held = yield TAKE
+        self.note(5, held=held)
+        return self.judged(65536 + held + ((yield TAKE) << 8))
+
+    def judged(self, length):
         if length > len(self.ram):
             self.reason = 33
             return 0
         return length
 
+    def running(self, address):
+        self.note(11, held=address)
+        while True:
+            yield RUN
+
+    # -- the call
+
+    def is_sound(self, kind, phase, _opcode, length, place, held):
+        # a phase takes or sends so many bytes, and one if it isn't named here; the place is that of the next
+        count = {7: length, 11: 0}.get(phase, 1)
+        if kind not in (0, 1) or phase > 11 or (kind == 0 and phase in (4, 5)) or (place > 0 and place >= count):
+            return False
+        if phase == 11:
+            return RAM_FIRST <= held < RAM_FIRST + len(self.ram)
+        return not 6 <= phase <= 9 or 1 <= length <= len(self.ram)
+
     def call(self, data, room):
         """Number, bytes taken, the bytes sent, standing."""
         if not 1 <= len(self.ram) <= 131072:
             return 2, 0, b"", 0
-        if self.kind not in (0, 1):
+        if not self.is_sound(*self.words[:6]):
             return 4, 0, b"", 0
-        taken, sent = 0, bytearray()
+        if self.flow is None:
+            _, phase, _, *step, self.reason, _ = self.words
+            self.flow = self.actions(phase, *step)
+            self.action = next(self.flow)
+        taken, sent, standing = 0, bytearray(), 3
         while self.action != RUN:
             if self.action == TAKE:
                 if taken == len(data):
-                    return 0, taken, bytes(sent), 1
+                    standing = 1
+                    break
                 self.action = self.flow.send(data[taken])
                 taken += 1
             else:
                 if len(sent) == room:
-                    return 0, taken, bytes(sent), 2
+                    standing = 2
+                    break
                 sent.append(self.action)
                 self.action = next(self.flow)
-        return 0, taken, bytes(sent), 3
+        self.words = self.step + [self.reason, 0]
+        return 0, taken, bytes(sent), standing
 
 
 def frame(kind, code, output):
@@ -234,7 +290,7 @@ class Run:
     """Calls to one session, what they say, and the joined replies. Bytes that a call does not take are shown again."""
 
     def __init__(self, kind, length, data):
-        self.session = Session(kind, bytearray(b"\xff" * length))
+        self.session = Session([kind, 0, 0, 0, 0, 0, 0, 0], bytearray(b"\xff" * length))
         self.data, self.at, self.replies, self.calls, self.said = data, 0, b"", [], []
 
     def call(self, piece, room):
@@ -247,13 +303,13 @@ class Run:
         return taken + len(sent)
 
     def end(self):
-        return self.replies, self.at, self.session.reason, self.session.ram
+        return self.replies, self.at, self.session.words, self.session.ram
 
     def answer(self):
-        replies, _, reason, ram = self.end()
+        replies, _, words, ram = self.end()
         n, room = len(replies), replies.ljust(REPLIES, b"\xee")
         return ":%s sent%s, then%s%s; reason %d; RAM%s%s" % (
-            "".join(self.said), hexes(room[:n]), hexes(room[n:n + 2]), sums(room), reason, hexes(ram[:8]), sums(ram))
+            "".join(self.said), hexes(room[:n]), hexes(room[n:n + 2]), sums(room), words[6], hexes(ram[:8]), sums(ram))
 
 
 def stream_lines():
