@@ -173,7 +173,7 @@ static void flash_figures(trial *t)
 
 /* Records that a call with a RAM of 16 bytes refuses with 4. */
 static const uint32_t refused_records[][WORDS] = {
-    /* Places: 0 alone where one byte is taken or sent, and where code runs; of the greeting, the code, a payload, an answer. */
+    /* A place other than 0 where one byte is taken or sent, or none; one at the end of greeting, code, payload or answer. */
     {0, 1, 0, 0, 9, 0, 0, 0},
     {0, 0, 0, 0, 1, 0, 0, 0},
     {1, 8, 0, 3, 1, 0, 0, 0},

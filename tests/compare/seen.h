@@ -19,10 +19,10 @@ typedef enum {
     SEEN_LAST_PLACE_P, SEEN_LAST_PLACE_E, SEEN_LAST_PLACE_UARTBOOT,
     SEEN_PLACE_AT_END_P, SEEN_PLACE_AT_END_E, SEEN_PLACE_AT_END_UARTBOOT,
     SEEN_PLACE_BEYOND_P, SEEN_PLACE_BEYOND_E, SEEN_PLACE_BEYOND_UARTBOOT,
-    /* given records where code runs: those with an address, and refused for it alone */
+    /* given records where code runs, by address (see below): accepted with it, refused for it alone */
     SEEN_ADDRESS_ACCEPTED_P, SEEN_ADDRESS_ACCEPTED_E, SEEN_ADDRESS_ACCEPTED_UARTBOOT,
     SEEN_ADDRESS_REFUSED_P, SEEN_ADDRESS_REFUSED_E, SEEN_ADDRESS_REFUSED_UARTBOOT,
-    /* the same with an opcode, 0 for all that are unknown */
+    /* the same by opcode, 0 for all that are unknown */
     SEEN_RUNNING_ACCEPTED, SEEN_RUNNING_REFUSED,
     SEENS
 } seen_what;
