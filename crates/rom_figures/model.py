@@ -214,7 +214,7 @@ LONG = [whole, in_header, large]
 GOOD = "010300112244,06"
 LOAD = "01020099aa,06"
 STREAMS = [
-    # kind, RAM length, the host's bytes, cuts
+    # kind of a fresh record, RAM length, the host's bytes, cuts
     (0, 16, GOOD, SHORT), (1, 16, GOOD, SHORT), (0, 3, GOOD, FEW), (0, 131072, GOOD, FEW),
     (0, 16, GOOD, NO_ROOM), (0, 16, "-", NO_INPUT), (1, 1, "-", NO_INPUT),
     # the wire's own bytes as code; a code of one byte; one as long as the RAM
@@ -254,10 +254,40 @@ STREAMS = [
     (1, 65536, "0100000000,*65536,06", LONG), (1, 65537, "0100000100,*65537,06", LONG), (1, 131072, "0100000100,*65537,06", LONG),
     (1, 131071, "010000ffff,*131071,06", LONG), (1, 131072, "010000ffff,*131071,06", LONG),
     (1, 131072, "010000ffff,*131071,02," + LOAD, LONG), (1, 65536, "0100000100,0100000000,*65536,06", LONG),
-    # refused calls
+    # refused lengths and kinds
     (0, 0, GOOD, FEW), (1, 0, "-", NO_INPUT), (0, 131073, GOOD, FEW), (1, 131073, GOOD, FEW), (2, 16, GOOD, FEW),
     (2, 131072, "-", NO_INPUT), (9999, 1, GOOD, FEW), (2, 0, GOOD, FEW), (2, 131073, GOOD, FEW),
 ]
+
+ANY = 4294967295
+
+
+def records():
+    """Given records, sound and unsound, each number at its edges, with a RAM of 16; those that a phase does not use are any, but for
+    the place."""
+    def handed(phase, length=3, place=0, held=RAM_FIRST, kind=1):
+        return "%d,%d,%d,%d,%d,%d,%d,%d" % (kind, phase, ANY, length, place, held, 77, 88)
+
+    # one byte, or none where code runs: place 0 alone
+    for phase in range(13):
+        for place in 0, 1, ANY:
+            yield handed(phase, place=place)
+    for place in 2, 3, 4:
+        yield handed(7, place=place)
+    for phase, length in itertools.product((6, 7, 8, 9), (0, 1, 16, 17, ANY)):
+        yield handed(phase, length)
+    for phase in 0, 1, 3, 4, 5, 11:
+        yield handed(phase, kind=0)
+        yield handed(phase, kind=2)
+    # the low byte of a length is any number
+    for phase, held in itertools.product((3, 5), (0, 1, 16, 17, 256, ANY)):
+        yield handed(phase, held=held)
+    for kind, address in itertools.product((0, 1), (0, 1, 15, 16, -1, 65536, ANY - RAM_FIRST)):
+        yield handed(11, ANY, held=RAM_FIRST + address, kind=kind)
+
+
+# A byte that is 00, so that a length may be the held byte alone; then an acknowledgement and a load.
+AFTER = "00,06," + LOAD
 
 CODES = 0, 1, 3, 255, 256, 257, 65535, 65536, 65537, 131071, 131072
 
@@ -289,8 +319,9 @@ def sums(data):
 class Run:
     """Calls to one session, what they say, and the joined replies. Bytes that a call does not take are shown again."""
 
-    def __init__(self, kind, length, data):
-        self.session = Session([kind, 0, 0, 0, 0, 0, 0, 0], bytearray(b"\xff" * length))
+    def __init__(self, first, length, data):
+        words = [int(word) for word in first.split(",")]
+        self.session = Session(words if len(words) == 8 else words + [0] * 7, bytearray(b"\xff" * length))
         self.data, self.at, self.replies, self.calls, self.said = data, 0, b"", [], []
 
     def call(self, piece, room):
@@ -308,24 +339,25 @@ class Run:
     def answer(self):
         replies, _, words, ram = self.end()
         n, room = len(replies), replies.ljust(REPLIES, b"\xee")
-        return ":%s sent%s, then%s%s; reason %d; RAM%s%s" % (
-            "".join(self.said), hexes(room[:n]), hexes(room[n:n + 2]), sums(room), words[6], hexes(ram[:8]), sums(ram))
+        return ":%s sent%s, then%s%s; record%s; RAM%s%s" % (
+            "".join(self.said), hexes(room[:n]), hexes(room[n:n + 2]), sums(room), "".join(" %d" % word for word in words),
+            hexes(ram[:8]), sums(ram))
 
 
 def stream_lines():
     """A cut ends with a call that has bytes and room and does nothing, where there is one, and with a call that has neither."""
-    for kind, length, text, cuts in STREAMS:
+    for first, length, text, cuts in itertools.chain(STREAMS, ((words, 16, AFTER, [whole]) for words in records())):
         data, ends = data_of(text), []
         for cut in cuts:
-            run = Run(kind, length, data)
+            run = Run(str(first), length, data)
             for piece, room in cut(len(data)):
                 if run.call(piece, room) == 0 and piece > 0 and room > 0:
                     break
             run.call(0, 0)
             ends.append(run.end())
-            yield "stream %d %d %s %s" % (kind, length, text, " ".join(run.calls)), run.answer()
+            yield "stream %s %d %s %s" % (first, length, text, " ".join(run.calls)), run.answer()
         # all was shown, with room: cuts do not matter
-        assert cuts in (NO_INPUT, NO_ROOM) or all(end == ends[0] for end in ends), (kind, length, text)
+        assert cuts in (NO_INPUT, NO_ROOM) or all(end == ends[0] for end in ends), (first, length, text)
 
 
 def frame_lines():

@@ -1,6 +1,7 @@
 // Streams of a host, and the calls that show them to a receiver.
 use machine::Record;
 use machine::Report;
+use machine::words::record_of;
 use rom::session::Receiver;
 use rom::session::call;
 use rows::data::fill;
@@ -55,9 +56,30 @@ fn make_call(run: Run, word: &[u8], host: &[u8], replies: &mut [u8], ram: &mut [
     }
 }
 
-fn fresh(row: &[u8]) -> Run {
-    let kind = number(piece(row, b' ', 1)) % 0x1_0000_0000;
-    let session = Receiver::fresh(kind as u32);
+fn word_of(words: &[u8], index: usize) -> u32 {
+    (number(piece(words, b',', index)) % 0x1_0000_0000) as u32
+}
+
+fn record_in(words: &[u8]) -> Record {
+    record_of([
+        word_of(words, 0),
+        word_of(words, 1),
+        word_of(words, 2),
+        word_of(words, 3),
+        word_of(words, 4),
+        word_of(words, 5),
+        word_of(words, 6),
+        word_of(words, 7),
+    ])
+}
+
+// The record that eight numbers between commas stand for, or a fresh one of the kind that stands alone.
+fn first(words: &[u8]) -> Run {
+    let session = if pieces(words, b',') == 1 {
+        Receiver::fresh(word_of(words, 0))
+    } else {
+        record_in(words)
+    };
     Run {
         session: session,
         taken: 0,
@@ -66,18 +88,30 @@ fn fresh(row: &[u8]) -> Run {
 }
 
 fn make_calls(row: &[u8], host: &[u8], replies: &mut [u8], ram: &mut [u8]) -> Run {
-    let mut run = fresh(row);
+    let mut run = first(piece(row, b' ', 1));
     for i in 4..pieces(row, b' ') {
         run = make_call(run, piece(row, b' ', i), host, replies, ram);
     }
     run
 }
 
+fn show_record(session: Record) {
+    decimal(b"; record ", session.kind as u64);
+    decimal(b" ", session.phase as u64);
+    decimal(b" ", session.opcode as u64);
+    decimal(b" ", session.length as u64);
+    decimal(b" ", session.place as u64);
+    decimal(b" ", session.held as u64);
+    decimal(b" ", session.reason as u64);
+    decimal(b" ", session.spare as u64);
+}
+
 fn show_end(run: Run, replies: &[u8], ram: &[u8]) {
     bytes(b" sent", part(replies, 0, run.sent));
     bytes(b", then", part(replies, run.sent, 2));
     sums(replies);
-    decimal(b"; reason ", run.session.reason as u64);
+    let session = run.session;
+    show_record(session);
     bytes(b"; RAM", part(ram, 0, 8));
     sums(ram);
 }
@@ -88,8 +122,8 @@ fn show_in(row: &[u8], host: &[u8], replies: &mut [u8], ram: &mut [u8]) {
     show_end(run, replies, ram);
 }
 
-// The row is: stream KIND LENGTH HOST, and calls COUNT/ROOM, with the RAM's length. Shown are each call's number, bytes taken, bytes
-// sent and standing; then the joined replies and what is behind them, the last reason and the RAM.
+// The row is: stream RECORD LENGTH HOST, and calls COUNT/ROOM, with the RAM's length. Shown are each call's number, bytes taken,
+// bytes sent and standing; then the joined replies and what is behind them, the record and the RAM.
 pub fn show(row: &[u8], host: &mut [u8], ram: &mut [u8]) {
     let count = store(piece(row, b' ', 3), host);
     let length = number(piece(row, b' ', 2));

@@ -13,8 +13,11 @@ Inv-loop row host replies₀ ram₀ run₀ i₀ i-end replies ram run i = (lengt
 abbrev μ-loop : tie.MeasureT-loop
 μ-loop row host replies₀ ram₀ run₀ i₀ i-end replies ram run i = i-end - i
 
-fresh-requires : tie.Need-fresh-requires Inv-loop μ-loop
-fresh-requires c κs = search needs
+piece-requires : tie.Need-piece-requires Inv-loop μ-loop
+piece-requires c κs = search needs
+
+first-requires : tie.Need-first-requires Inv-loop μ-loop
+first-requires c κs = search needs
 
 pieces-requires : tie.Need-pieces-requires Inv-loop μ-loop
 pieces-requires c κs = search needs
@@ -22,8 +25,8 @@ pieces-requires c κs = search needs
 loop-holds : tie.Need-loop-holds Inv-loop μ-loop
 loop-holds c = search needs
 
-piece-requires : tie.Need-piece-requires Inv-loop μ-loop
-piece-requires c κs = search needs
+piece-requires-2 : tie.Need-piece-requires-2 Inv-loop μ-loop
+piece-requires-2 c κs = search needs
 
 make-call-requires : tie.Need-make-call-requires Inv-loop μ-loop
 make-call-requires c κs = search needs
@@ -52,10 +55,11 @@ make-calls-spec =
     (tie.spec
     Inv-loop
     μ-loop
-    fresh-requires
+    piece-requires
+    first-requires
     pieces-requires
     loop-holds
-    piece-requires
+    piece-requires-2
     make-call-requires
     add-i
     loop-less
