@@ -402,38 +402,41 @@ def refused():
     yield Stream(None, "-", NO_INPUT, words=bad)
 
 
+ANY = 4294967295
+
+
+def handed(phase, opcode=ANY, length=ANY, place=0, held=ANY, kind=2):
+    """A call that is handed this record; the numbers that a phase does not use are any, but for the place."""
+    words = "%d,%d,%d,%d,%d,%d,%d,%d" % (kind, phase, opcode, length, place, held, 77, 88)
+    return Stream(None, chain("06", crc("ffff"), GET_VERSION), ONE, words=words, flash="*4096")
+
+
 def records():
-    """Records, sound and unsound, each number at its edges; those that a phase does not use are any, but for the place."""
-    host, any_number = chain("06", crc("ffff"), GET_VERSION), 4294967295
-
-    def handed(phase, opcode=any_number, length=any_number, place=0, held=any_number, kind=2):
-        words = "%d,%d,%d,%d,%d,%d,%d,%d" % (kind, phase, opcode, length, place, held, 77, 88)
-        return Stream(None, host, ONE, words=words, flash="*4096")
-
-    for kind in 0, 1, 3, any_number:
+    """Records, sound and unsound, each number at its edges."""
+    for kind in 0, 1, 3, ANY:
         yield handed(0, kind=kind)
         yield handed(19, RUN, held=A, kind=kind)
-    for phase in 20, 21, 256, any_number:
+    for phase in 20, 21, 256, ANY:
         yield handed(phase, WRITE, 6, 0, A)
-    for place in 0, 1, 3, 4, 5, any_number:
+    for place in 0, 1, 3, 4, 5, ANY:
         yield handed(0, place=place)
     for phase in 1, 2, 3, 18:
         yield handed(phase)
-    for opcode in 0, 1, 6, 18, 257, 65537, any_number:
+    for opcode in 0, 1, 6, 18, 257, 65537, ANY:
         yield handed(3, opcode)
         yield handed(4, opcode, held=5)
-    for held in 6, 5, 255, 256, 4294965766, any_number:
+    for held in 6, 5, 255, 256, 4294965766, ANY:
         yield handed(4, READ, held=held)
         yield handed(4, WRITE, held=held)
     for phase in range(5, 18):
         # phases that an opcode has, or doesn't; a payload or an answer as long as the opcode's numbers, or one longer
         for opcode, length in NUMBERS.items():
             yield handed(phase, opcode, length + (opcode in WITH_DATA or phase > 10), 0)
-        for opcode in (0, 6, 257, any_number) if phase in (5, 6, 10, 11, 14, 17) else ():
+        for opcode in (0, 6, 257, ANY) if phase in (5, 6, 10, 11, 14, 17) else ():
             yield handed(phase, opcode, 6, 0)
-        for length in (0, 1, 64, 65, any_number) if phase > 10 else ():
+        for length in (0, 1, 64, 65, ANY) if phase > 10 else ():
             yield handed(phase, READ, length, 0)
-        for length in (4, 5, 64, 65, 320, any_number) if phase in (5, 6, 10) else ():
+        for length in (4, 5, 64, 65, 320, ANY) if phase in (5, 6, 10) else ():
             yield handed(phase, WRITE, length, 0)
             yield handed(phase, DIRECT, length, 0)
     for phase, opcode in itertools.product((5, 6, 10), (READ, COPY, ERASE, RUN, READ_FLASH, VERSION, CHIP_ERASE)):
@@ -443,21 +446,29 @@ def records():
         yield handed(14, VERSION, length, 0)
         yield handed(15, READ_FLASH, length)
     for phase, opcode, length in (6, WRITE, 7), (6, COPY, 10), (14, READ, 7), (14, VERSION, 7), (14, READ_FLASH, 64):
-        for place in 0, 1, length - 1, length, length + 1, any_number:
+        for place in 0, 1, length - 1, length, length + 1, ANY:
             yield handed(phase, opcode, length, place)
-    # one byte, or none where code runs: place 0 alone
+    yield from single_places()
+    yield from running_records()
+
+
+def single_places():
+    """Phases that take or send one byte, or none: place 0 alone is sound."""
     for phase in 1, 2, 3, 4, 18:
-        for place in 0, 1, any_number:
+        for place in 0, 1, ANY:
             yield handed(phase, WRITE, 6, place, 6)
     for phase in 5, 7, 8, 9, 10, 11, 12, 13, 15, 16, 17:
-        for place in 1, 9, any_number:
+        for place in 1, 9, ANY:
             yield handed(phase, COPY if phase < 11 else READ, 10, place, 6)
-    for place in 0, 1, 3, any_number:
+    for place in 0, 1, 3, ANY:
         yield handed(19, RUN, 4, place, A)
-    # where code runs: an address in RAM, and Run's opcode, whose length is any
-    for address in A, A + 1, A + 15, A + 16, A - 1, 0, any_number, A + 65536:
+
+
+def running_records():
+    """Where code runs: an address in RAM, and Run's opcode, whose length is any."""
+    for address in A, A + 1, A + 15, A + 16, A - 1, 0, ANY, A + 65536:
         yield handed(19, RUN, held=address)
-    for opcode in (0, *NUMBERS, 6, 261, 65541, any_number):
+    for opcode in (0, *NUMBERS, 6, 261, 65541, ANY):
         yield handed(19, opcode, 4, held=A + 15)
 
 

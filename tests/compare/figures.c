@@ -129,14 +129,14 @@ static void exchange_figure(trial *t, desk *d, const exchange *x)
 static void exchange_figures(trial *t)
 {
     static const exchange figures[] = {
-        {KIND_P, 16, 0, 0, BYTES("\x01\x03\x00\x11\x22\x44\x06"), BYTES("\x02\x06\x77"), 11, 0, 133955584, 0},
+        {KIND_P, 16, 0, 0, BYTES("\x01\x03\x00\x11\x22\x44\x06"), BYTES("\x02\x06\x77"), 11, 0, RAM_BASE, 0},
         {KIND_E, 131072, 0, 0, BYTES("\x01\x00\x00\x00\x00"), BYTES("\x02\x06"), 7, 65536, 0, 0},
         {KIND_E, 131072, 0, 0, BYTES("\x01\x00\x00\x01\x00"), BYTES("\x02\x06"), 7, 65537, 0, 0},
         {KIND_E, 131072, 0, 0, BYTES("\x01\xFF\xFF"), BYTES("\x02\x06"), 7, 65535, 0, 0},
         {KIND_UARTBOOT, 1, 4096, 64, BYTES("\x01\x04\x07\x00"), BYTES("\x02\x01\x00\x03\x15\x02\x01\x00\x03"), 1, 0, 0, 12},
         {KIND_UARTBOOT, 1, 4096, 64, BYTES("\x01\x0B\x00\x00\x06"), BYTES("\x02\x01\x00\x03\x06\x07\x00" "0.0.0.3"), 15, 7, 0, 0},
         {KIND_UARTBOOT, 9, 4096, 64, BYTES(WRITE_AND_READ), BYTES(WRITTEN_AND_READ), 1, 0, 0, 0},
-        {KIND_UARTBOOT, 16, 4096, 64, BYTES(RUN_LAST_BYTE), BYTES("\x02\x01\x00\x03\x06\x06\x65\x76"), 19, 0, 133955599, 0},
+        {KIND_UARTBOOT, 16, 4096, 64, BYTES(RUN_LAST_BYTE), BYTES("\x02\x01\x00\x03\x06\x06\x65\x76"), 19, 0, RAM_BASE + 15, 0},
     };
     desk d;
     for (size_t i = 0; i < sizeof figures / sizeof *figures; i++)
@@ -178,24 +178,24 @@ static const uint32_t refused_records[][WORDS] = {
     {0, 0, 0, 0, 1, 0, 0, 0},
     {1, 8, 0, 3, 1, 0, 0, 0},
     {1, 7, 0, 3, 3, 0, 0, 0},
-    {0, 11, 0, 0, 1, 133955584, 0, 0},
+    {0, 11, 0, 0, 1, RAM_BASE, 0, 0},
     {2, 0, 0, 0, 4, 0, 0, 0},
     {2, 1, 0, 0, 1, 0, 0, 0},
     {2, 6, 1, 5, 5, 0, 0, 0},
     {2, 10, 1, 5, 1, 0, 0, 0},
     {2, 14, 2, 5, 5, 0, 0, 0},
     {2, 18, 0, 0, 1, 0, 0, 0},
-    {2, 19, 5, 0, 1, 133955584, 0, 0},
+    {2, 19, 5, 0, 1, RAM_BASE, 0, 0},
     /* Addresses beside RAM, and none. */
-    {0, 11, 0, 0, 0, 133955583, 0, 0},
-    {1, 11, 0, 0, 0, 133955600, 0, 0},
+    {0, 11, 0, 0, 0, RAM_BASE - 1, 0, 0},
+    {1, 11, 0, 0, 0, RAM_BASE + 16, 0, 0},
     {0, 11, 0, 0, 0, 0, 0, 0},
-    {2, 19, 5, 0, 0, 133955583, 0, 0},
-    {2, 19, 5, 0, 0, 133955600, 0, 0},
+    {2, 19, 5, 0, 0, RAM_BASE - 1, 0, 0},
+    {2, 19, 5, 0, 0, RAM_BASE + 16, 0, 0},
     /* A running command that is not Run. */
-    {2, 19, 1, 0, 0, 133955584, 0, 0},
-    {2, 19, 0, 0, 0, 133955584, 0, 0},
-    {2, 19, 261, 0, 0, 133955584, 0, 0},
+    {2, 19, 1, 0, 0, RAM_BASE, 0, 0},
+    {2, 19, 0, 0, 0, RAM_BASE, 0, 0},
+    {2, 19, 261, 0, 0, RAM_BASE, 0, 0},
 };
 
 /* Records that it accepts, with its standing where there is neither input nor room, and the record that it hands out. */
@@ -204,14 +204,14 @@ static const struct {
 } accepted_records[] = {
     {{0, 1, 9, 9, 0, 9, 9, 9}, WANTS_BYTE, {0, 1, 0, 0, 0, 0, 9, 0}},
     {{1, 7, 9, 3, 2, 9, 9, 9}, WANTS_BYTE, {1, 7, 0, 3, 2, 0, 9, 0}},
-    {{0, 11, 9, 9, 0, 133955584, 9, 9}, RUNS, {0, 11, 0, 0, 0, 133955584, 9, 0}},
-    {{1, 11, 0, 0, 0, 133955599, 0, 0}, RUNS, {1, 11, 0, 0, 0, 133955599, 0, 0}},
+    {{0, 11, 9, 9, 0, RAM_BASE, 9, 9}, RUNS, {0, 11, 0, 0, 0, RAM_BASE, 9, 0}},
+    {{1, 11, 0, 0, 0, RAM_BASE + 15, 0, 0}, RUNS, {1, 11, 0, 0, 0, RAM_BASE + 15, 0, 0}},
     {{2, 0, 9, 9, 3, 9, 9, 9}, WANTS_ROOM, {2, 0, 0, 0, 3, 0, 9, 0}},
     {{2, 6, 1, 5, 4, 9, 9, 9}, WANTS_BYTE, {2, 6, 1, 5, 4, 0, 9, 0}},
     {{2, 14, 2, 5, 4, 9, 9, 9}, WANTS_ROOM, {2, 14, 2, 5, 4, 0, 9, 0}},
     {{2, 18, 9, 9, 0, 9, 9, 9}, WANTS_ROOM, {2, 18, 0, 0, 0, 0, 9, 0}},
-    {{2, 19, 5, 0, 0, 133955584, 0, 0}, RUNS, {2, 19, 5, 0, 0, 133955584, 0, 0}},
-    {{2, 19, 5, 4294967295, 0, 133955599, 9, 9}, RUNS, {2, 19, 5, 0, 0, 133955599, 9, 0}},
+    {{2, 19, 5, 0, 0, RAM_BASE, 0, 0}, RUNS, {2, 19, 5, 0, 0, RAM_BASE, 0, 0}},
+    {{2, 19, 5, 4294967295, 0, RAM_BASE + 15, 9, 9}, RUNS, {2, 19, 5, 0, 0, RAM_BASE + 15, 9, 0}},
 };
 
 static void record_figure(trial *t, const uint32_t given[WORDS], uint32_t number, uint32_t standing, const uint32_t after[WORDS])

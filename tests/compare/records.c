@@ -20,7 +20,7 @@ static uint32_t running_phase(uint32_t kind)
     return kind == KIND_UARTBOOT ? 19 : 11;
 }
 
-static bool is_running(const uint32_t record[WORDS])
+bool is_running(const uint32_t record[WORDS])
 {
     return record[WORD_PHASE] == running_phase(record[WORD_KIND]);
 }
@@ -153,15 +153,16 @@ static bool is_accepted_with(const setting *s, int word, uint32_t number)
 
 static void note_place(const setting *s, bool accepted)
 {
-    uint32_t phase = s->record[WORD_PHASE], place = s->record[WORD_PLACE], places = places_of(s->record);
+    uint32_t kind = s->record[WORD_KIND], phase = s->record[WORD_PHASE], place = s->record[WORD_PLACE];
+    uint32_t places = places_of(s->record);
     if (!is_accepted_with(s, WORD_PLACE, 0))
         return;
     if (accepted && place == 0)
-        seen(SEEN_FIRST_PLACE_P + s->kind, phase);
+        seen(SEEN_FIRST_PLACE_P + kind, phase);
     if (accepted && place == places - 1)
-        seen(SEEN_LAST_PLACE_P + s->kind, phase);
+        seen(SEEN_LAST_PLACE_P + kind, phase);
     if (!accepted)
-        seen((place == places ? SEEN_PLACE_AT_END_P : SEEN_PLACE_BEYOND_P) + s->kind, phase);
+        seen((place == places ? SEEN_PLACE_AT_END_P : SEEN_PLACE_BEYOND_P) + kind, phase);
 }
 
 static void note_address(const setting *s, bool accepted)
@@ -175,7 +176,7 @@ static void note_address(const setting *s, bool accepted)
                         : byte == length                      ? ADDRESS_BEHIND
                         : s->record[WORD_HELD] >= 0xFFFFFFE0u ? ADDRESS_HIGHEST
                                                               : ADDRESS_OTHER;
-    seen((accepted ? SEEN_ADDRESS_ACCEPTED_P : SEEN_ADDRESS_REFUSED_P) + s->kind, what);
+    seen((accepted ? SEEN_ADDRESS_ACCEPTED_P : SEEN_ADDRESS_REFUSED_P) + s->record[WORD_KIND], what);
 }
 
 static void note_opcode(const setting *s, bool accepted)

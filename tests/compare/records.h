@@ -7,6 +7,9 @@
 /* How many places a record's phase has: as many as it takes or sends bytes, and the place 0 where it takes and sends none. */
 uint32_t places_of(const uint32_t record[WORDS]);
 
+/* Whether code runs, by the record's kind and phase. */
+bool is_running(const uint32_t record[WORDS]);
+
 /* Words that are often a sound record of the setting's kind, and often nearly one. Phases go up to `last_phase`. A command that is
    planned has its payload in the work buffer. */
 void draw_record(trial *t, setting *s, uint32_t last_phase);

@@ -104,7 +104,7 @@ static void run_cut(trial *t, const visit *v, desk *d, const cut *how, ending *e
         over = got.number != 0 || got.standing == RUNS || (got.standing == WANTS_BYTE && e->taken == v->length);
     }
     memcpy(e->record, d->record, sizeof e->record);
-    e->runs = v->start.kind == KIND_UARTBOOT ? e->record[WORD_PHASE] == 19 : e->record[WORD_PHASE] == 11;
+    e->runs = is_running(e->record);
     e->reason = e->record[WORD_REASON];
     e->address = e->runs ? e->record[WORD_HELD] : 0;
     e->has_record = true;
