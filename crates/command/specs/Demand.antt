@@ -4,7 +4,7 @@ use Prim.Native.Nat.{ℕ}
 use mathlib.Core.Bool.{cond, not}
 use lib.Dec.{eqb, ltb}
 use Rattle.wire.specs.Range.{liesIn}
-use Rattle.wire.specs.Unit.{ramBase}
+use Rattle.wire.specs.Unit.{ramBase, firstAddress}
 use Rattle.wire.specs.declared.unit.RamAddress.{RamAddress}
 use Rattle.wire.specs.declared.unit.FlashOffset.{FlashOffset}
 use Rattle.command.specs.declared.payload.Command.{Command}
@@ -28,10 +28,7 @@ abbrev pub demands : (verify count : ℕ) (address : RamAddress) (ram : ℕ) (of
 demands verify count address ram offset flash answer =
     record { verify = verify; count = count; address = address; ram = ram; offset = offset; flash = flash; answer = answer }
 
--- for a command without a range in RAM, or in flash
-abbrev pub firstAddress : RamAddress
-firstAddress = record { 0 = ramBase }
-
+-- for a command without a range in flash; one without a range in RAM has RAM's first address
 abbrev pub firstOffset : FlashOffset
 firstOffset = record { 0 = 0 }
 

@@ -33,16 +33,16 @@ opcodeOf number =
     Unknown))))))))
 
 -- the payload lengths that an opcode has: that of its numbers, and for Write and Direct write data of 1 byte or more after them
-abbrev pub hasLength : Opcode → (count : ℕ) → Bool
-hasLength Write count = leb 5 count
-hasLength Read count = eqb count 6
-hasLength Copy count = eqb count 10
-hasLength Erase count = eqb count 8
-hasLength Run count = eqb count 4
-hasLength ReadQspi count = eqb count 6
-hasLength Version count = eqb count 0
-hasLength ChipErase count = eqb count 0
-hasLength DirectWrite count = leb 6 count
+abbrev pub hasLength : Opcode → (size : ℕ) → Bool
+hasLength Write size = leb 5 size
+hasLength Read size = eqb size 6
+hasLength Copy size = eqb size 10
+hasLength Erase size = eqb size 8
+hasLength Run size = eqb size 4
+hasLength ReadQspi size = eqb size 6
+hasLength Version size = eqb size 0
+hasLength ChipErase size = eqb size 0
+hasLength DirectWrite size = leb 6 size
 
 abbrev pub hasAnswer : Opcode → Bool
 hasAnswer Write = false

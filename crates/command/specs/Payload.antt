@@ -27,19 +27,19 @@ writeData = 4
 abbrev pub directWriteData : ℕ
 directWriteData = 5
 
--- a payload of `count` bytes stands at the front of the work buffer
-abbrev pub commandOf : Opcode → (count : ℕ) (work : List ℕ) → Command
-commandOf Write count work = command.Write (addressAt 0 work) (count - writeData)
-commandOf Read count work = command.Read (addressAt 0 work) (numberAt 2 work 4)
-commandOf Copy count work = command.Copy (addressAt 0 work) (numberAt 2 work 4) (offsetAt 6 work)
-commandOf Erase count work = command.Erase (offsetAt 0 work) (numberAt 4 work 4)
-commandOf Run count work = command.Run (addressAt 0 work)
-commandOf ReadQspi count work = command.ReadQspi (offsetAt 0 work) (numberAt 2 work 4)
-commandOf Version count work = command.Version
-commandOf ChipErase count work = command.ChipErase
-commandOf DirectWrite count work = command.DirectWrite (getD work 0 0) (offsetAt 1 work) (count - directWriteData)
+-- a payload of `size` bytes stands at the front of the work buffer
+abbrev pub commandOf : Opcode → (size : ℕ) (work : List ℕ) → Command
+commandOf Write size work = command.Write (addressAt 0 work) (size - writeData)
+commandOf Read size work = command.Read (addressAt 0 work) (numberAt 2 work 4)
+commandOf Copy size work = command.Copy (addressAt 0 work) (numberAt 2 work 4) (offsetAt 6 work)
+commandOf Erase size work = command.Erase (offsetAt 0 work) (numberAt 4 work 4)
+commandOf Run size work = command.Run (addressAt 0 work)
+commandOf ReadQspi size work = command.ReadQspi (offsetAt 0 work) (numberAt 2 work 4)
+commandOf Version size work = command.Version
+commandOf ChipErase size work = command.ChipErase
+commandOf DirectWrite size work = command.DirectWrite (getD work 0 0) (offsetAt 1 work) (size - directWriteData)
 
--- a payload length that the opcode has, in a work buffer of `size` bytes
-pub record Carried (opcode : Opcode) (count size : ℕ) : Type 0 where
-  pub has-length : hasLength opcode count ≡ true
-  pub in-work : count ≤ size
+-- a payload length that the opcode has, in a work buffer of `work` bytes
+pub record Carried (opcode : Opcode) (size work : ℕ) : Type 0 where
+  pub has-length : hasLength opcode size ≡ true
+  pub in-work : size ≤ work

@@ -56,19 +56,19 @@ pub fn number_of(opcode: Opcode) -> u32
 }
 
 // Whether an opcode has payloads of this length.
-pub fn has_length(opcode: Opcode, count: usize) -> bool
-    ensures { λ r. ⌜ r ≡ hasLength opcode count ⌝ }
+pub fn has_length(opcode: Opcode, size: usize) -> bool
+    ensures { λ r. ⌜ r ≡ hasLength opcode size ⌝ }
 {
     match opcode {
-        Opcode::Write => 5 <= count,
-        Opcode::Read => count == 6,
-        Opcode::Copy => count == 10,
-        Opcode::Erase => count == 8,
-        Opcode::Run => count == 4,
-        Opcode::ReadQspi => count == 6,
-        Opcode::Version => count == 0,
-        Opcode::ChipErase => count == 0,
-        Opcode::DirectWrite => 6 <= count,
+        Opcode::Write => 5 <= size,
+        Opcode::Read => size == 6,
+        Opcode::Copy => size == 10,
+        Opcode::Erase => size == 8,
+        Opcode::Run => size == 4,
+        Opcode::ReadQspi => size == 6,
+        Opcode::Version => size == 0,
+        Opcode::ChipErase => size == 0,
+        Opcode::DirectWrite => 6 <= size,
     }
 }
 

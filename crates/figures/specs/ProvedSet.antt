@@ -15,7 +15,7 @@ use Rattle.headers.specs.ImageHeader.{imageHeaderOf}
 use Rattle.machine.specs.Uncut.{uncut}
 use Rattle.rom_flow.specs.declared.kind.Kind.the-variants.{P, E}
 use Rattle.rom_flow.specs.declared.step.Step.the-variants.{TakeCode, Running}
-use Rattle.rom_flow.specs.Flow.{start}
+use Rattle.wire.specs.Unit.{firstAddress}
 use Rattle.rom_flow.specs.Receiver.{fresh, receiver}
 use Rattle.rom.specs.Record.{written}
 use Rattle.memory.specs.Flash.{burnt, blank}
@@ -100,7 +100,7 @@ provedSet =
       replies = 0x02 ∷ 0x06 ∷ 0x77 ∷ [];
       taken = 7;
       sent = 3;
-      session = written P (Running start) 0;
+      session = written P (Running firstAddress) 0;
       memories = 0x11 ∷ 0x22 ∷ 0x44 ∷ 0x00 ∷ [];
     })
     ∷ (definition uartboot device (0x01 ∷ 0x04 ∷ 0x07 ∷ 0x00 ∷ []) is record {

@@ -23,7 +23,8 @@ use Rattle.rom_flow.specs.declared.kind.Kind.{Kind}
 use Rattle.rom_flow.specs.declared.kind.Kind.the-variants.{P, E}
 use Rattle.rom_flow.specs.declared.step.Step.the-variants.{SendAck, TakeCode, SendXor, Running}
 use Rattle.wire.specs.Line.{stx, soh, ack}
-use Rattle.rom_flow.specs.Flow.{start, codeStep}
+use Rattle.wire.specs.Unit.{firstAddress}
+use Rattle.rom_flow.specs.Flow.{codeStep}
 use Rattle.rom_flow.specs.Ask.{xorOf}
 use Rattle.rom_flow.specs.Receiver.{State, fresh, need, took, byte, sent, receiver, state}
 use Rattle.rom_flow.proofs.Laws.{lawful-any}
@@ -50,7 +51,7 @@ gives-send s {stream} e g = record { whole = uncut-act receiver lawful-any s tt 
 
 -- the state at the end
 abbrev ran : Kind → (code ram : List ℕ) → State
-ran kind code ram = state kind (Running start) 0 (laid code ram)
+ran kind code ram = state kind (Running firstAddress) 0 (laid code ram)
 
 -- behind the header, with a RAM where the code fits
 module _ (kind : Kind) (code ram : List ℕ) (fits : length code ≤ length ram) where

@@ -9,7 +9,7 @@ use Rattle.machine.specs.Uncut.{uncut}
 use Rattle.rom_flow.specs.declared.kind.Kind.{Kind}
 use Rattle.rom_flow.specs.declared.step.Step.the-variants.{Running}
 use Rattle.wire.specs.Line.{stx, ack}
-use Rattle.rom_flow.specs.Flow.{start}
+use Rattle.wire.specs.Unit.{firstAddress}
 use Rattle.rom_flow.specs.Ask.{xorOf}
 use Rattle.rom_flow.specs.Receiver.{fresh, receiver}
 use Rattle.frame.specs.Frame.{framedOf}
@@ -24,5 +24,5 @@ RoundTrip =
     ≡ record {
       replies = stx ∷ ack ∷ xorOf code ∷ [];
       taken = w .framed .length;
-      final = record { kind = kind; step = Running start; reason = 0; ram = laid code ram };
+      final = record { kind = kind; step = Running firstAddress; reason = 0; ram = laid code ram };
     }

@@ -14,7 +14,7 @@ use Rattle.machine.specs.Machine.{Need, acts, runs, Machine}
 use Rattle.machine.specs.Outcome.{halt, acted, join}
 use Rattle.machine.specs.Call.{act, call}
 use Rattle.machine.specs.Uncut.{drainAt, drain, feed, uncut}
-use Rattle.machine.specs.Lawful.{Moves, takes-one, sends-one, stops, Lawful}
+use Rattle.machine.specs.Lawful.{Moves, takes-some, sends-some, stops, Lawful}
 use Rattle.machine.proofs.Outcomes.{join-assoc, halt-join, cond-same}
 
 module _ {A S : Type 0} (m : Machine A S) where
@@ -76,8 +76,8 @@ module _ {A S : Type 0} (m : Machine A S) where
 
         moved : Moves m s view → act m k (m .need (m .after s view)) (m .after s view) (drop takes inp) left
             ≡ act m l (m .need (m .after s view)) (m .after s view) (drop takes inp) left
-        moved (takes-one p) = let less : length (drop takes inp) + left < length inp + room = omega (arith, shown, fits, inside, rest) in same _ _ _ (h less) (g less)
-        moved (sends-one p q) = let some : 0 < length (m .says s view) = q in let less : length (drop takes inp) + left < length inp + room = omega (arith, shown, fits, inside, rest) in same _ _ _ (h less) (g less)
+        moved (takes-some p) = let less : length (drop takes inp) + left < length inp + room = omega (arith, shown, fits, inside, rest) in same _ _ _ (h less) (g less)
+        moved (sends-some p q) = let some : 0 < length (m .says s view) = q in let less : length (drop takes inp) + left < length inp + room = omega (arith, shown, fits, inside, rest) in same _ _ _ (h less) (g less)
         moved (stops p) = rw p (act-run k _ _ _ ∙ sym (act-run l _ _ _))
 
     fuel-step : (k l : ℕ) → Same k l → Same (suc k) (suc l)
@@ -173,8 +173,8 @@ module _ {A S : Type 0} (m : Machine A S) where
         moved : Moves m s view →
             feed m k (m .need (drain m next .final)) (drain m next .final) (drop takes stream)
             ≡ feed m l (m .need (drain m next .final)) (drain m next .final) (drop takes stream)
-        moved (takes-one p) = same _ _ (omega (arith, shown, inside, left)) (omega (arith, left, g p))
-        moved (sends-one p q) = absurd (let z : ⊥ = omega (arith, ap length p, length-take-le (suc views) stream shown) in z)
+        moved (takes-some p) = same _ _ (omega (arith, shown, inside, left)) (omega (arith, left, g p))
+        moved (sends-some p q) = absurd (let z : ⊥ = omega (arith, ap length p, length-take-le (suc views) stream shown) in z)
         moved (stops p) = rw (drain-run next p, p) (feed-run k next _ ∙ sym (feed-run l next _))
 
     feed-step : (k l : ℕ) → SameFeed k l → SameFeed (suc k) (suc l)

@@ -34,7 +34,7 @@ module _ {A S : Type 0} (m : Machine A S) {Good : A → Type 0} {Sound : S → T
 
       continues : uncut m start stream ≡ join o (uncut m (o .final) rest)
       unfolding rest
-      continues = path-continues m law start stream g w (c .path)
+      continues = path-continues m law start stream g w (c .way)
 
       stopped-same : Stopped m (o .final) rest → o ≡ uncut m start stream
       stopped-same s = sym (continues ∙ rw (stopped-uncut (o .final) rest s) (join-halt o))
@@ -56,10 +56,10 @@ module _ {A S : Type 0} (m : Machine A S) {Good : A → Type 0} {Sound : S → T
           let view = take views (drop (p .taken) input) in
           let same : view ≡ take views (drop (p .taken) rest) = begins-take (drop (p .taken) input) (drop (p .taken) rest) views later v in
           let on = call-came m law start stream o c shown room in
-          let sound : Sound (p .final) = path-keeps m law start stream (law .stays-sound) w g (on .path) in
+          let sound : Sound (p .final) = path-keeps m law start stream (law .stays-sound) w g (on .way) in
           let enough : views ≤ length (drop (p .taken) rest) = omega (arith, v, ap length (later .is), length-append (drop (p .taken) input) (later .back)) in
           let act = uncut-act m law (p .final) sound (drop (p .taken) rest) views e enough in
-          let whole = path-continues m law start stream g w (on .path) in
+          let whole = path-continues m law start stream g w (on .way) in
           let whole′ = rw (← drop-drop (p .taken) (o .taken) stream, act, ← same) at whole in
           let sent = o .replies ++ p .replies in
           let said = m .says (p .final) view in

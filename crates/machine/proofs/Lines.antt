@@ -8,7 +8,7 @@ use lib.ListN.{length}
 use Rattle.machine.specs.Machine.{Need, acts, runs, Machine, line}
 use Rattle.machine.specs.Machine as machine
 use Rattle.machine.specs.History.{Event}
-use Rattle.machine.specs.Lawful.{Every, Moves, takes-one, sends-one, Kept, Lawful}
+use Rattle.machine.specs.Lawful.{Every, Moves, takes-some, sends-some, Kept, Lawful}
 use Rattle.machine.proofs.Stops.{viewsOf, not-both}
 
 -- a need of a line
@@ -36,8 +36,8 @@ module _ {A S : Type 0} (need : S → Need) (took : S → A → S) (byte : S →
   line-moves s view views e l = go (is-line s) view l
     where
       go : Line (need s) → (view : List A) → length view ≡ views → Moves m s view
-      go (takes f) view l = let v : views ≡ 1 = ap viewsOf (sym e ∙ f) in takes-one (omega arith)
-      go (sends f) [] l = sends-one refl (omega arith)
+      go (takes f) view l = let v : views ≡ 1 = ap viewsOf (sym e ∙ f) in takes-some (omega arith)
+      go (sends f) [] l = sends-some refl (omega arith)
       go (sends f) (a ∷ view) l = let v : views ≡ 0 = ap viewsOf (sym e ∙ f) in absurd (let z : ⊥ = omega arith in z)
       go (ends f) view l = absurd (not-both views (sym f ∙ e))
 

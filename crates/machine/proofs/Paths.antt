@@ -59,7 +59,7 @@ module _ {A S : Type 0} (m : Machine A S) {Good : A → Type 0} {Sound : S → T
   pub came-on : (o : Outcome S) → Came m start stream o → (views : ℕ) → m .need (o .final) ≡ acts views →
       (view : List A) → view ≡ take views (drop (o .taken) stream) → length view ≡ views →
       Came m start stream (join o (acted (m .says (o .final) view) (m .takes (o .final) view) (m .after (o .final) view)))
-  came-on o c views e view v l = record { events = _; path = more (c .path) e v l }
+  came-on o c views e view v l = record { events = _; way = more (c .way) e v l }
 
   -- so many actions on a front of what is not yet taken
   Acts : (fuel : ℕ) → Type 0
@@ -114,13 +114,13 @@ module _ {A S : Type 0} (m : Machine A S) {Good : A → Type 0} {Sound : S → T
       acts-all (suc (length (take shown rest) + room)) o c (take shown rest) front room
 
   pub at-start : Came m start stream (halt start)
-  at-start = record { events = []; path = here }
+  at-start = record { events = []; way = here }
 
   -- what every action keeps, a call keeps
   pub call-keeps : {P : S → Type 0} → Kept m Good (λ _ s. P s) → Every Good stream → P start → (room : ℕ) → P (call m start stream room .final)
   call-keeps k w h room =
       let c = call-came (halt start) at-start (length stream) room in
-      path-keeps k w h (rw (take-length stream, halt-join start (call m start stream room)) at c .path)
+      path-keeps k w h (rw (take-length stream, halt-join start (call m start stream room)) at c .way)
 
   -- and so does a list of calls
   pub calls-came : (cs : List Call) (o : Outcome S) → Came m start stream o → Came m start stream (join o (calls m (o .final) (drop (o .taken) stream) cs))
@@ -232,7 +232,7 @@ module _ {A S : Type 0} (m : Machine A S) {Good : A → Type 0} {Sound : S → T
 pub traced : {A S : Type 0} (m : Machine A S) (start : S) (stream : List A) (fuel : ℕ) (events : List (Event A S)) (o : Outcome S) →
     Way m start stream events o → Leads m start stream (trace m fuel (m .need (o .final)) (o .final) (drop (o .taken) stream) events)
 unfolding trace
-traced m start stream zero events o p = record { outcome = _; path = p }
+traced m start stream zero events o p = record { outcome = _; way = p }
 traced {A} {S} m start stream (suc fuel) events o p = go (m .need (o .final)) refl (traced m start stream fuel)
   where
     Later : Type 0
@@ -243,8 +243,8 @@ traced {A} {S} m start stream (suc fuel) events o p = go (m .need (o .final)) re
     rest = drop (o .taken) stream
 
     go : (n : Need) → m .need (o .final) ≡ n → Later → Leads m start stream (trace m (suc fuel) n (o .final) rest events)
-    go runs e ih = record { outcome = _; path = p }
-    go (acts views) e ih = cases (leb views (length rest)) (λ t. rw t (goes t)) (λ f. rw f (record { outcome = _; path = p }))
+    go runs e ih = record { outcome = _; way = p }
+    go (acts views) e ih = cases (leb views (length rest)) (λ t. rw t (goes t)) (λ f. rw f (record { outcome = _; way = p }))
       where
         view : List A
         view = take views rest

@@ -30,25 +30,36 @@ pub record Accepts {A M S : Type 0} (σ : Session A M S) (r : Record) (mem : M) 
   pub read-is : σ .read r mem ≡ sound state
   pub answer-is : answerOf σ r mem input reply ≡ accepted σ state input reply
 
+-- a call is accepted, or refused with a number that isn't 0 and standing 0
+data Judged {A M S : Type 0} (σ : Session A M S) (r : Record) (mem : M) (input : List A) (reply : List ℕ) : Type 0 where
+  accepted-so : Accepts σ r mem input reply → Judged σ r mem input reply
+  refused-so : (answerOf σ r mem input reply .report .number ≡ 0 → ⊥) → answerOf σ r mem input reply .report .standing ≡ 0 → Judged σ r mem input reply
+
+judged : {A M S : Type 0} (σ : Session A M S) (r : Record) (mem : M) (input : List A) (reply : List ℕ) → Judged σ r mem input reply
+unfolding answerOf
+judged {A} {M} {S} σ r mem input reply =
+    cases (eqb (σ .refusal mem) 0) (λ t. reads t (σ .read r mem) refl) (λ f. refused-so (rw f (eqb-false _ _ f)) (rw f refl))
+  where
+    reads : eqb (σ .refusal mem) 0 ≡ true → (d : Read S) → σ .read r mem ≡ d → Judged σ r mem input reply
+    reads t (sound s) q = accepted-so (record { state = s; fits = eqb-true _ _ t; read-is = q; answer-is = rw (t, q) refl })
+    reads t unsound q = refused-so (rw (t, q) (λ z. omega arith)) (rw (t, q) refl)
+
 pub accepts : {A M S : Type 0} (σ : Session A M S) (r : Record) (mem : M) (input : List A) (reply : List ℕ) → answerOf σ r mem input reply .report .number ≡ 0 →
     Accepts σ r mem input reply
-unfolding answerOf
-accepts {A} {M} {S} σ r mem input reply e = cases (eqb (σ .refusal mem) 0) (λ t. reads t (σ .read r mem) refl) (λ f. absurd (eqb-false _ _ f (rw f at e)))
+accepts σ r mem input reply e = go (judged σ r mem input reply)
   where
-    reads : eqb (σ .refusal mem) 0 ≡ true → (d : Read S) → σ .read r mem ≡ d → Accepts σ r mem input reply
-    reads t (sound s) q = record { state = s; fits = eqb-true _ _ t; read-is = q; answer-is = rw (t, q) refl }
-    reads t unsound q = absurd (let z : _≡_ {A = ℕ} 4 0 = rw (t, q) at e in omega arith)
+    go : Judged σ r mem input reply → Accepts σ r mem input reply
+    go (accepted-so a) = a
+    go (refused-so n s) = absurd (n e)
 
 -- the same of a call that stands somewhere
 pub accepts-standing : {A M S : Type 0} (σ : Session A M S) (r : Record) (mem : M) (input : List A) (reply : List ℕ) {standing : ℕ} →
     answerOf σ r mem input reply .report .standing ≡ standing → 0 < standing → Accepts σ r mem input reply
-unfolding answerOf
-accepts-standing {A} {M} {S} σ r mem input reply {standing} e h =
-    cases (eqb (σ .refusal mem) 0) (λ t. reads t (σ .read r mem) refl) (λ f. absurd (let z : 0 ≡ standing = rw f at e in let y : ⊥ = omega arith in y))
+accepts-standing σ r mem input reply e h = go (judged σ r mem input reply)
   where
-    reads : eqb (σ .refusal mem) 0 ≡ true → (d : Read S) → σ .read r mem ≡ d → Accepts σ r mem input reply
-    reads t (sound s) q = record { state = s; fits = eqb-true _ _ t; read-is = q; answer-is = rw (t, q) refl }
-    reads t unsound q = absurd (let z : 0 ≡ standing = rw (t, q) at e in let y : ⊥ = omega arith in y)
+    go : Judged σ r mem input reply → Accepts σ r mem input reply
+    go (accepted-so a) = a
+    go (refused-so n s) = absurd (let z : ⊥ = omega (arith, e, s) in z)
 
 -- what is read stands for one state
 pub sound-same : {S : Type 0} (a b : S) → sound a ≡ sound b → a ≡ b

@@ -20,7 +20,7 @@ module _ {S : Type 0} (need : S → Need) (took : S → ℕ → S) (byte : S →
     pub reached-takes : {s t : S} {i j count : ℕ} {reply : List ℕ} → Reached m s₀ input old s i j reply → Takes m input i s count t →
         Reached m s₀ input old t (i + count) j reply
     reached-takes r steps.none = rw add-zero r
-    reached-takes {i = i} r (steps.more {count} {t} before e h) =
+    reached-takes {i = i} r (steps.more {count} {t} before e one h) =
         rw (add-suc i count, ← add-one (i + count)) (reached-take need took byte sent due law (reached-takes r before) 0 e h)
 
     pub reached-sends : {s t : S} {i j count : ℕ} {reply after : List ℕ} → Reached m s₀ input old s i j reply → Sends m s j reply count t after →
@@ -34,7 +34,7 @@ module _ {S : Type 0} (need : S → Need) (took : S → ℕ → S) (byte : S →
 module _ {S : Type 0} (m : Machine ℕ S) (P : S → Type 0) (kept : Kept m Any (λ _ s. P s)) where
   pub takes-keep : {input : List ℕ} {i count : ℕ} {s t : S} → Takes m input i s count t → P s → P t
   takes-keep steps.none p = p
-  takes-keep {input} {i} (steps.more {count} {t} before e h) p = kept [] t (getD input (i + count) 0 ∷ []) 1 e refl (tt, tt) (takes-keep before p)
+  takes-keep {input} {i} (steps.more {count} {t} before e one h) p = kept [] t (getD input (i + count) 0 ∷ []) 1 e refl (tt, tt) (takes-keep before p)
 
   pub sends-keep : {j count : ℕ} {s t : S} {old reply : List ℕ} → Sends m s j old count t reply → P s → P t
   sends-keep steps.none p = p
@@ -48,7 +48,7 @@ sends-length k {j} (steps.more {count} {byte = b} {t} {reply} before e says h) =
 -- no more is taken than there is, and no more sent than there is room for
 pub takes-fit : {S : Type 0} (k : Machine ℕ S) {input : List ℕ} {i count : ℕ} {s t : S} → Takes k input i s count t → i ≤ length input → i + count ≤ length input
 takes-fit k steps.none h = rw add-zero h
-takes-fit k {i = i} (steps.more {count} before e h) fits = rw (add-suc i count) h
+takes-fit k {i = i} (steps.more {count} before e one h) fits = rw (add-suc i count) h
 
 pub sends-fit : {S : Type 0} (k : Machine ℕ S) {j count : ℕ} {s t : S} {old reply : List ℕ} → Sends k s j old count t reply → j ≤ length old → j + count ≤ length reply
 sends-fit k steps.none h = rw add-zero h

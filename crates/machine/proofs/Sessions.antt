@@ -24,7 +24,7 @@ use Rattle.machine.proofs.Outcomes.{halt-join}
 use Rattle.machine.proofs.Actions.{call-run, call-short, call-full}
 use Rattle.machine.proofs.Paths.{path-keeps, path-within, call-came, calls-came, at-start, uncut-came}
 use Rattle.machine.proofs.Stops.{stands-running, stands-waiting, call-blocked, uncut-stops, still}
-use Rattle.machine.proofs.Refusals.{Accepts, accepts-standing}
+use Rattle.machine.proofs.Refusals.{accepts-standing}
 use Rattle.machine.proofs.Cuts.{came-holds}
 
 -- what a program's calls gave back is what the definition gives
@@ -92,7 +92,7 @@ module _ {A M S : Type 0} (σ : Session A M S) {Good : A → Type 0} {fresh : M 
 
   module _ (start : S) (good : Sound start) (stream : List A) (w : Every Good stream) where
     pub came-sound : (o : Outcome S) → Came m start stream o → Sound (o .final)
-    came-sound o c = path-keeps m (law .lawful) start stream (law .lawful .stays-sound) w good (c .path)
+    came-sound o c = path-keeps m (law .lawful) start stream (law .lawful .stays-sound) w good (c .way)
 
     -- the totals of a list are those of the machine's calls
     totals-are : (cs : List Lent) (o : Outcome S) → Came m start stream o →
@@ -189,8 +189,8 @@ module _ {A M S : Type 0} (σ : Session A M S) {Good : A → Type 0} {fresh : M 
       ended (Stopped.waits q) =
           let l = stands-waiting (m .need (u .final)) (length (drop (u .taken) stream)) q in
           let most = one (u .final) (l .views) (l .need-is) in
-          let within = path-within m (law .lawful) s stream (came .path) in
-          claim.Ended.wants (omega (arith, l .less, most, within, length-drop (u .taken) stream))
+          let within = path-within m (law .lawful) s stream (came .way) in
+          claim.Ended.waits (omega (arith, l .less, most, within, length-drop (u .taken) stream))
           (stands ∙ rw (l .need-is, lt-ltb 0 (l .views) (omega (arith, l .less))) refl)
 
   -- the claim about a whole list of calls

@@ -3,19 +3,17 @@
 -- Assumes nothing.
 use Prim.Native.Nat.{ℕ, suc, _≤_, _<_}
 use native.Mathlib.Omega.{arith}
-use mathlib.Core.Path.{_≡_, refl, sym, ap}
+use mathlib.Core.Path.{_≡_, refl, sym, ap, _∙_}
 use mathlib.Core.Bool.{Bool, true, false, cond}
 use mathlib.Core.List.{List, [], _∷_}
 use lib.Dec.{eqb}
 use lib.ListN.{length}
+use borrow.Table.Steps.{cases}
 use Rattle.machine.specs.Machine.{Need, acts, runs, Machine}
-use Rattle.machine.specs.Lawful.{takes-one, stops, Lawful}
+use Rattle.machine.specs.Lawful.{Any, takes-some, stops, Moves, Lawful}
 use Rattle.machine.specs.Claim.{Claim}
 use Rattle.machine.proofs.Stops.{viewsOf, not-both}
 use Rattle.machine.proofs.Cuts.{cuts-never-matter}
-
-abbrev Any : {X : Type 0} → X → Type 0
-Any x = Unit {0}
 
 -- slots of `width` symbols: each is taken whole, answered with one byte, and counted
 abbrev slots : (width : ℕ) → Machine ℕ ℕ
@@ -26,14 +24,14 @@ slots-lawful width some =
     record {
       stays-sound = λ events s view views e l w g. tt;
       takes-in-view = λ s view. omega arith;
-      moves = λ s view views e l. let v : width ≡ views = ap viewsOf e in takes-one (omega arith);
+      moves = λ s view views e l. let v : width ≡ views = ap viewsOf e in takes-some (omega arith);
       due-falls = λ s g e. let v : width ≡ 0 = ap viewsOf e in absurd (let z : ⊥ = omega arith in z);
     }
 
 pub slots-never-matter : (width : ℕ) → 0 < width → Claim (slots width) Any Any
 slots-never-matter width some = cuts-never-matter (slots width) (slots-lawful width some)
 
--- a look at one symbol: `kept` stays, any other is taken; then nothing follows
+-- a look at one symbol: `kept` stays, and nothing follows; any other is taken, and the look goes on
 abbrev lookNeed : (seen : Bool) → Need
 lookNeed false = acts 1
 lookNeed true = runs
@@ -42,8 +40,12 @@ abbrev lookTakes : (kept : ℕ) (view : List ℕ) → ℕ
 lookTakes kept [] = 0
 lookTakes kept (a ∷ view) = cond (eqb a kept) 0 1
 
+abbrev lookAfter : (kept : ℕ) (view : List ℕ) → Bool
+lookAfter kept [] = false
+lookAfter kept (a ∷ view) = eqb a kept
+
 abbrev looks : (kept : ℕ) → Machine ℕ Bool
-looks kept = record { need = lookNeed; after = λ s view. true; says = λ s view. []; takes = λ s view. lookTakes kept view; due = λ s. 0 }
+looks kept = record { need = lookNeed; after = λ s view. lookAfter kept view; says = λ s view. []; takes = λ s view. lookTakes kept view; due = λ s. 0 }
 
 look-views : (s : Bool) (views : ℕ) → lookNeed s ≡ acts views → views ≡ 1
 look-views false views e = sym (ap viewsOf e)
@@ -57,12 +59,16 @@ look-takes kept (a ∷ view) = one (eqb a kept)
     one true = omega arith
     one false = omega arith
 
+look-moves : (kept : ℕ) (s : Bool) (view : List ℕ) → length view ≡ 1 → Moves (looks kept) s view
+look-moves kept s [] l = absurd (let z : ⊥ = omega arith in z)
+look-moves kept s (a ∷ view) l = cases (eqb a kept) (λ t. stops (rw t refl)) (λ f. takes-some (rw f (omega arith)))
+
 looks-lawful : (kept : ℕ) → Lawful (looks kept) Any Any
 looks-lawful kept =
     record {
       stays-sound = λ events s view views e l w g. tt;
       takes-in-view = λ s view. look-takes kept view;
-      moves = λ s view views e l. stops refl;
+      moves = λ s view views e l. look-moves kept s view (l ∙ look-views s views e);
       due-falls = λ s g e. absurd (let z : ⊥ = omega (arith, look-views s 0 e) in z);
     }
 

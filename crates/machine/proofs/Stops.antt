@@ -16,7 +16,7 @@ use Rattle.machine.specs.Machine.{Need, acts, runs, Machine}
 use Rattle.machine.specs.Outcome.{Outcome, halt, acted, join}
 use Rattle.machine.specs.Call.{standingOf, standing, act, call, Blocked}
 use Rattle.machine.specs.Uncut.{drainAt, drain, feed, uncut}
-use Rattle.machine.specs.Lawful.{Every, Moves, takes-one, sends-one, stops, Lawful}
+use Rattle.machine.specs.Lawful.{Every, Moves, takes-some, sends-some, stops, Lawful}
 use Rattle.machine.specs.Claim.{Stopped, waits, running}
 use Rattle.machine.proofs.Paths.{every-take, every-drop}
 use Rattle.machine.proofs.Actions.{call-run, call-full, call-act, drain-takes-none}
@@ -96,8 +96,8 @@ module _ {A S : Type 0} (m : Machine A S) where
             Later = Blocked m (drop takes inp) (room - length said) (act m k (m .need next) next (drop takes inp) (room - length said))
 
             later : Moves m s view → views ≤ length inp → length said ≤ room → Later
-            later (takes-one p) shown fits = ih next (drop takes inp) (room - length said) (omega (arith, inside shown, length-drop takes inp))
-            later (sends-one p q) shown fits = ih next (drop takes inp) (room - length said) (omega (arith, q, inside shown, length-drop takes inp))
+            later (takes-some p) shown fits = ih next (drop takes inp) (room - length said) (omega (arith, inside shown, length-drop takes inp))
+            later (sends-some p q) shown fits = ih next (drop takes inp) (room - length said) (omega (arith, q, inside shown, length-drop takes inp))
             later (stops p) shown fits = rw p (over k)
               where
                 over : (k : ℕ) → Blocked m (drop takes inp) (room - length said) (act m k runs next (drop takes inp) (room - length said))
@@ -201,10 +201,10 @@ module _ {A S : Type 0} (m : Machine A S) where
                 rw (none, zero-add, ← drop-drop (last .taken) takes stream) (moved (law .moves s view (suc views) e v) shown sound)
               where
                 moved : Moves m s view → suc views ≤ length stream → Sound next → Stopped m (last .final) (drop (last .taken) (drop takes stream))
-                moved (takes-one p) shown sound =
+                moved (takes-some p) shown sound =
                     ih (due .final) (drain-sound-at (m .due next) (m .need next) next sound refl) (settled-at (m .due next) (m .need next) next sound refl refl)
                     (drop takes stream) (every-drop Good takes stream w) (omega (arith, shown, length-drop takes stream))
-                moved (sends-one p q) shown sound = absurd (let z : ⊥ = omega (arith, ap length p, length-take-le (suc views) stream shown) in z)
+                moved (sends-some p q) shown sound = absurd (let z : ⊥ = omega (arith, ap length p, length-take-le (suc views) stream shown) in z)
                 moved (stops p) shown sound = ended (m .due next) k
                   where
                     ended : (d k : ℕ) → let u = drainAt m d (m .need next) next in let o = feed m k (m .need (u .final)) (u .final) (drop takes stream) in
@@ -260,6 +260,6 @@ module _ {A S : Type 0} (m : Machine A S) where
                     one = call-act m law s inp 0 views e shown h
 
                     moved : Moves m s view → Stopped m s inp
-                    moved (takes-one p) = absurd (let z : m .takes s view + call m next (drop (m .takes s view) inp) (0 - length said) .taken ≡ 0 = rw one at none in let y : ⊥ = omega arith in y)
-                    moved (sends-one p q) = absurd (let y : ⊥ = omega (arith, h, q) in y)
+                    moved (takes-some p) = absurd (let z : m .takes s view + call m next (drop (m .takes s view) inp) (0 - length said) .taken ≡ 0 = rw one at none in let y : ⊥ = omega arith in y)
+                    moved (sends-some p q) = absurd (let y : ⊥ = omega (arith, h, q) in y)
                     moved (stops p) = two 3 (rw (one, call-run m next (drop (m .takes s view) inp) (0 - length said) p, p) at w) (omega arith)

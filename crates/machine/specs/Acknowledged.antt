@@ -10,7 +10,7 @@ use Rattle.wire.specs.Line.{ack}
 use Rattle.machine.specs.Machine.{Machine, isRunning}
 use Rattle.machine.specs.History.{Event}
 
--- the byte that an action took is this one
+-- the byte in view, which an action of a line takes, is this one
 abbrev pub tookByte : (byte : ℕ) (view : List ℕ) → Bool
 tookByte byte [] = false
 tookByte byte (taken ∷ view) = eqb taken byte

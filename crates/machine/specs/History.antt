@@ -26,12 +26,12 @@ pub data Way {A S : Type 0} (m : Machine A S) (start : S) (stream : List A) : Li
 -- some events lead there
 pub record Came {A S : Type 0} (m : Machine A S) (start : S) (stream : List A) (o : Outcome S) : Type 0 where
   pub events : List (Event A S)
-  pub path : Way m start stream events o
+  pub way : Way m start stream events o
 
 -- they lead somewhere
 pub record Leads {A S : Type 0} (m : Machine A S) (start : S) (stream : List A) (events : List (Event A S)) : Type 0 where
   pub outcome : Outcome S
-  pub path : Way m start stream events outcome
+  pub way : Way m start stream events outcome
 
 -- the events of at most so many actions on what is left of a stream, put before those so far; the room never ends
 unfoldable pub trace : {A S : Type 0} → Machine A S → (fuel : ℕ) → Need → S → (rest : List A) → List (Event A S) → List (Event A S)

@@ -18,8 +18,8 @@ Any a = Unit {0}
 
 -- an action goes on: it takes a symbol, or sends with nothing in view, or no action follows
 pub data Moves {A S : Type 0} (m : Machine A S) (s : S) (view : List A) : Type 0 where
-  takes-one : 0 < m .takes s view → Moves m s view
-  sends-one : view ≡ [] → 0 < length (m .says s view) → Moves m s view
+  takes-some : 0 < m .takes s view → Moves m s view
+  sends-some : view ≡ [] → 0 < length (m .says s view) → Moves m s view
   stops : m .need (m .after s view) ≡ runs → Moves m s view
 
 module _ {A S : Type 0} (m : Machine A S) (Good : A → Type 0) where

@@ -31,7 +31,7 @@ TakesAll {A} {M} σ =
 -- where the uncut definition, which gave d for the stream, has stopped: it waits for a symbol with all taken, or code runs, by what a
 -- call with no input and no room would report
 pub data Ended {A M S : Type 0} (σ : Session A M S) (stream : List A) (d : Given M) : Type 0 where
-  wants : d .taken ≡ length stream → answerOf σ (d .session) (d .memories) [] [] .report .standing ≡ 1 → Ended σ stream d
+  waits : d .taken ≡ length stream → answerOf σ (d .session) (d .memories) [] [] .report .standing ≡ 1 → Ended σ stream d
   running : answerOf σ (d .session) (d .memories) [] [] .report .standing ≡ 3 → Ended σ stream d
 
 -- where symbols are taken one by one, the uncut definition stops nowhere else
@@ -59,7 +59,7 @@ module _ {A M S : Type 0} (σ : Session A M S) (Told : List (Event A S) → S �
     pub reached-is : (g .session ≡ σ .write reached) × (g .memories ≡ σ .memories reached)
     pub reads-as : σ .read (g .session) (g .memories) ≡ sound reached
     pub history : Came (σ .machine) start stream (record { replies = g .replies; taken = g .taken; final = reached })
-    -- what the actions say holds wherever they lead: there, and at every state on the way
+    -- what actions of the machine say holds wherever they lead: where the list has come, and at every state on the way
     pub told : (events : List (Event A S)) (o : Outcome S) → Way (σ .machine) start stream events o → Told events (o .final)
 
 -- Good: the symbols of a stream

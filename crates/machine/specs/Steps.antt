@@ -11,7 +11,8 @@ module _ {S : Type 0} (m : Machine ℕ S) where
   -- from s, so many takes of the input's bytes from byte i on lead to a state
   pub data Takes (input : List ℕ) (i : ℕ) (s : S) : (count : ℕ) → S → Type 0 where
     none : Takes input i s 0 s
-    more : {count : ℕ} {t : S} → Takes input i s count t → m .need t ≡ machine.takeOne → i + count < length input →
+    more : {count : ℕ} {t : S} → Takes input i s count t → m .need t ≡ machine.takeOne →
+        m .takes t (getD input (i + count) 0 ∷ []) ≡ 1 → i + count < length input →
         Takes input i s (suc count) (m .after t (getD input (i + count) 0 ∷ []))
 
   -- from s, so many sends into a reply slice from byte j on lead to a state and to what the slice then holds

@@ -8,6 +8,7 @@ use lib.Dec.{eqb, leb, ltb}
 use lib.ListN.{length}
 use Rattle.wire.specs.Length.{isRamLength}
 use Rattle.wire.specs.Line.{soh, ack}
+use Rattle.wire.specs.Unit.{firstAddress}
 use Rattle.wire.proofs.Tests.{in-cond}
 use Rattle.machine.specs.Machine as machine
 use Rattle.machine.specs.Machine.{isRunning}
@@ -66,7 +67,7 @@ took-runs kind size (TakeCode n p) reason b e = code-never n (p + 1)
 took-runs kind size (SendXor n) reason b e = refl
 took-runs kind size (TakeAck n) reason b e = go (eqb b ack)
   where
-    go : (t : Bool) → runs (cond t (flow.to (Running flow.start) reason) (flow.to SendStx flow.notAcked) .step) ≡ t
+    go : (t : Bool) → runs (cond t (flow.to (Running firstAddress) reason) (flow.to SendStx flow.notAcked) .step) ≡ t
     go true = refl
     go false = refl
 took-runs kind size SendNak reason b e = refl

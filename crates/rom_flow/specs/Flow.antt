@@ -4,8 +4,7 @@ use Prim.Native.Nat.{ℕ, _+_, _*_}
 use mathlib.Core.Bool.{cond}
 use lib.Dec.{eqb, leb, ltb}
 use Rattle.wire.specs.Line.{soh, ack}
-use Rattle.wire.specs.Unit.{ramBase}
-use Rattle.wire.specs.declared.unit.RamAddress.{RamAddress}
+use Rattle.wire.specs.Unit.{firstAddress}
 use Rattle.rom_flow.specs.declared.kind.Kind.{Kind}
 use Rattle.rom_flow.specs.declared.kind.Kind.the-variants.{P, E}
 use Rattle.rom_flow.specs.declared.step.Step.{Step}
@@ -28,10 +27,6 @@ longCode = 33
 
 abbrev pub notAcked : ℕ
 notAcked = 34
-
--- where loaded code runs: the RAM's first address
-abbrev pub start : RamAddress
-start = record { 0 = ramBase }
 
 abbrev pub to : Step → (reason : ℕ) → Progress
 to step reason = record { step = step; reason = reason }
@@ -61,7 +56,7 @@ took kind size (TakeHigh low) reason byte = headed kind size reason (low + 256 *
 took kind size TakeExtendedLow reason byte = to (TakeExtendedHigh byte) reason
 took kind size (TakeExtendedHigh low) reason byte = judged size reason (firstExtended + (low + 256 * byte))
 took kind size (TakeCode total place) reason byte = to (codeStep total (place + 1)) reason
-took kind size (TakeAck total) reason byte = cond (eqb byte ack) (to (Running start) reason) (to SendStx notAcked)
+took kind size (TakeAck total) reason byte = cond (eqb byte ack) (to (Running firstAddress) reason) (to SendStx notAcked)
 took kind size SendStx reason byte = to SendStx reason
 took kind size (SendAck total) reason byte = to (SendAck total) reason
 took kind size (SendXor total) reason byte = to (SendXor total) reason

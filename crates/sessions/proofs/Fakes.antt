@@ -21,7 +21,7 @@ use Rattle.uartboot_flow.specs.Fresh.{freshRecord}
 use Rattle.uartboot_record.specs.Record as device-record
 use Rattle.uartboot.specs.Session as device-session
 use Rattle.sessions.specs.Kind.{Kind, romP, romE, uartboot, MemoriesOf, sessionOf, freshRecordOf}
-use Rattle.sessions.specs.Fakes.{Routine, Keeps, headerOf, greetingOf, twoWrites, small, NobodyFakes}
+use Rattle.sessions.specs.Fakes.{Routine, Keeps, headerOf, greetingLengthOf, twoWrites, small, NobodyFakes}
 
 -- memories of an accepted length, and a first call on them with room for 16 bytes
 abbrev sample : (kind : Kind) → MemoriesOf kind
@@ -61,13 +61,13 @@ calls-accepted romP = (refl, refl)
 calls-accepted romE = (refl, refl)
 calls-accepted uartboot = (refl, refl)
 
-first-sent : (kind : Kind) → firstCall kind [] .report .sent ≡ greetingOf kind
+first-sent : (kind : Kind) → firstCall kind [] .report .sent ≡ greetingLengthOf kind
 unfolding answerOf accepted act call receiver.took rom-record.decodedOf rom-record.stepIn rom-record.phaseIn isBetween isFlashLength device-record.decodedOf device-record.stepIn device-record.phaseIn device-session.refusalOf
 first-sent romP = refl
 first-sent romE = refl
 first-sent uartboot = refl
 
-bytes-sent : (kind : Kind) → (length (take (firstCall kind [] .report .sent) (firstCall kind [] .reply)) ≡ greetingOf kind)
+bytes-sent : (kind : Kind) → (length (take (firstCall kind [] .report .sent) (firstCall kind [] .reply)) ≡ greetingLengthOf kind)
     × (length (take (firstCall kind (refusedStream kind) .report .sent) (firstCall kind (refusedStream kind) .reply)) ≡ refusedLength kind)
 unfolding answerOf accepted act call receiver.took rom-record.decodedOf rom-record.stepIn rom-record.phaseIn isBetween isFlashLength device-record.decodedOf device-record.stepIn device-record.phaseIn device-session.refusalOf opcodeOf
 bytes-sent romP = (refl, refl)
@@ -76,7 +76,7 @@ bytes-sent uartboot = (refl, refl)
 
 -- an accepted header is answered with 06
 acknowledged : (kind : Kind) → let a = firstCall kind (headerOf kind (acceptedLow kind) 0) in
-    (a .report .number ≡ 0) × (getD (a .reply) (greetingOf kind) 0 ≡ ack)
+    (a .report .number ≡ 0) × (getD (a .reply) (greetingLengthOf kind) 0 ≡ ack)
 unfolding answerOf accepted act call receiver.took rom-record.decodedOf rom-record.stepIn rom-record.phaseIn isBetween isFlashLength device-record.decodedOf device-record.stepIn device-record.phaseIn device-session.refusalOf opcodeOf
 acknowledged romP = (refl, refl)
 acknowledged romE = (refl, refl)
@@ -87,12 +87,12 @@ some-low romP = omega arith
 some-low romE = omega arith
 some-low uartboot = omega arith
 
-differ : (kind : Kind) → greetingOf kind ≡ refusedLength kind → ⊥
+differ : (kind : Kind) → greetingLengthOf kind ≡ refusedLength kind → ⊥
 differ romP e = omega arith
 differ romE e = omega arith
 differ uartboot e = omega arith
 
-some : (kind : Kind) → greetingOf kind ≡ 0 → ⊥
+some : (kind : Kind) → greetingLengthOf kind ≡ 0 → ⊥
 some romP e = omega arith
 some romE e = omega arith
 some uartboot e = omega arith
@@ -125,7 +125,7 @@ nobody-fakes =
       no-constant-nak = λ kind f keeps naks.
           let header = headerOf kind (acceptedLow kind) 0 in
           let nak-sent = naks (sample kind) (acceptedLow kind) 0 room (some-low kind) refl (numbered kind f keeps header ∙ acknowledged kind .0) in
-          let ack-sent = ap (λ (a : Answer (MemoriesOf kind)). getD (a .reply) (greetingOf kind) 0) (keeps (start kind) (sample kind) header room) ∙ acknowledged kind .1 in
+          let ack-sent = ap (λ (a : Answer (MemoriesOf kind)). getD (a .reply) (greetingLengthOf kind) 0) (keeps (start kind) (sample kind) header room) ∙ acknowledged kind .1 in
           let z : ack ≡ nak = sym ack-sent ∙ nak-sent in omega arith;
       no-idling = λ kind f keeps idles.
           some kind (sym (ap (λ (a : Answer (MemoriesOf kind)). a .report .sent) (keeps (start kind) (sample kind) [] room) ∙ first-sent kind)

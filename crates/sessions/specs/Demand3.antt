@@ -1,5 +1,5 @@
 -- Demand 3 (01, "Demand 3, one claim about a whole list"): one statement for all three kinds, all memories, every stream of bytes and
--- every list of calls, the refused ones among them. Its lines stand in machine's SessionClaim, over a session's definition:
+-- every list of calls, the refused ones among them. But for the first its lines stand in machine's SessionClaim, over any session:
 --   starts-fresh      a session starts at the record that is handed out for it
 --   definition-ends   the definition stops when a take finds the stream empty, or when code runs
 --   refused-lengths   where the lengths are refused, all calls are, and nothing changes
@@ -9,7 +9,7 @@
 --   too-few-left      the same where what is left is less than the next action needs
 --   enough-room, takes-all   a call with room for the replies waits for a byte, unless code runs; it then has taken all it was shown
 --   reached, reached-is, reads-as, history   the state that the list has come to, by actions of the flow; its record is read as it
---   told              of every list of actions of the flow, `Told` holds where it leads: there, and at every state on the way
+--   told              what the actions of the flow tell holds where the list has come, and at every state on the way
 -- Assumes nothing.
 use Prim.Native.Nat.{ℕ}
 use mathlib.Core.Path.{_≡_}

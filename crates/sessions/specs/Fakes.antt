@@ -39,17 +39,17 @@ headerOf romE low high = soh ∷ low ∷ high ∷ []
 headerOf uartboot low high = soh ∷ opcodeNumber Erase ∷ low ∷ high ∷ []
 
 -- how many bytes are sent before a header is taken
-abbrev pub greetingOf : Kind → ℕ
-greetingOf romP = 1
-greetingOf romE = 1
-greetingOf uartboot = greetingLength
+abbrev pub greetingLengthOf : Kind → ℕ
+greetingLengthOf romP = 1
+greetingLengthOf romE = 1
+greetingLengthOf uartboot = greetingLength
 
 -- a fresh session answers every header with 15; kind E takes two bytes more where both length bytes are zero
 abbrev pub AlwaysNaks : (kind : Kind) → Routine kind → Type 0
 AlwaysNaks kind f =
     (mem : MemoriesOf kind) (low high : ℕ) (reply : List ℕ) → 0 < low + high → length reply ≡ 16 →
     f (freshRecordOf kind) mem (headerOf kind low high) reply .report .number ≡ 0 →
-    getD (f (freshRecordOf kind) mem (headerOf kind low high) reply .reply) (greetingOf kind) 0 ≡ nak
+    getD (f (freshRecordOf kind) mem (headerOf kind low high) reply .reply) (greetingLengthOf kind) 0 ≡ nak
 
 -- it takes and sends nothing
 abbrev pub DoesNothing : (kind : Kind) → Routine kind → Type 0

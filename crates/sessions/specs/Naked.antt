@@ -29,7 +29,7 @@ abbrev pub refusedPayload : List ℕ
 refusedPayload = acceptedHeader ++ replicate 8 0x00
 
 pub record NakSpeaks : Type 0 where
-  -- these are histories: paths of the session's actions
+  -- these are histories: ways of the session's actions
   pub leads : (m : Memories) (stream : List ℕ) → Leads device (fresh m) stream (historyOf m stream)
   pub header-refused : lastOf (historyOf small refusedHeader) ≡ since small true
   pub payload-refused : lastOf (historyOf small refusedPayload) ≡ since small true

@@ -42,7 +42,7 @@ module _ (step : Step) (reason : ℕ) (m : Memories) where
   takes-one x e input i h p m′ q r f =
       let y : i + 0 < length input = omega arith in
       let all : steps.Takes device input i (state step reason m) 1 (took (state step reason m) (getD input (i + 0) 0)) =
-      steps.more steps.none (asked-need reason m step (Take x) e) y in
+      steps.more steps.none (asked-need reason m step (Take x) e) refl y in
       rw (f, q) (record { some = omega arith; takes = rw add-zero at all })
 
   -- one byte sent

@@ -32,7 +32,7 @@ module _ (opcode : Opcode) (n p reason : ℕ) (input : List ℕ) (i : ℕ) (ram 
       let v : p + q < length work = omega arith in
       let w : q < length (drop i input) = simp length-drop (omega arith) in
       let before = rw (lt-ltb (p + q) n x) at (payload-run q (omega arith) (omega arith)) in
-      rw (← paste-suc work p (drop i input) q 0 v w, getD-drop, add-suc p q, ← add-one (p + q)) (steps.more before refl y)
+      rw (← paste-suc work p (drop i input) q 0 v w, getD-drop, add-suc p q, ← add-one (p + q)) (steps.more before refl refl y)
 
   pub payload-taken : (q : ℕ) (work′ : List ℕ) → i < length input → Copied input i work p n work′ q → (t : State) →
       t ≡ arrived reason (memories ram flash work′) opcode n (p + q) →

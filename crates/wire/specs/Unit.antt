@@ -11,6 +11,9 @@ use Rattle.wire.specs.Range.{liesIn, placeIn}
 abbrev pub ramBase : ℕ
 ramBase = 0x07FC_0000
 
+abbrev pub firstAddress : RamAddress
+firstAddress = record { 0 = ramBase }
+
 -- where `count` bytes from a RAM address on lie in `ram` bytes of RAM
 abbrev pub ramPlace : RamAddress → (count ram : ℕ) → Place
 ramPlace address count ram = placeIn (address .0) count ramBase ram
