@@ -8,7 +8,7 @@ use lib.Bits.{bitXor, xor-lt}
 use Rattle.crc.specs.Rule.{rule32}
 use Rattle.crc.specs.Register.{leaving, moved, placed, afterBit, afterBits, afterByte, after}
 use Rattle.crc.specs.Crc.{crcOf}
-use Rattle.headers.specs.Made.{Bytes}
+use Rattle.wire.specs.Bytes.{Bytes}
 
 bit-lt : (r : ℕ) → r < 2 ^ 32 → afterBit rule32 r < 2 ^ 32
 unfolding afterBit moved leaving

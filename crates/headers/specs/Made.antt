@@ -1,19 +1,16 @@
 -- What a header that was made says where it lies in a memory (01, "Dual image"): any bytes may stand before and behind it.
 -- Assumes nothing.
-use Prim.Native.Nat.{ℕ, _^_, _<_}
+use Prim.Native.Nat.{ℕ}
 use mathlib.Core.Path.{_≡_}
-use mathlib.Core.List.{List, [], _∷_, _++_}
+use mathlib.Core.List.{List, _++_}
 use mathlib.Core.Bool.{true}
 use lib.ListN.{length}
+use Rattle.wire.specs.Bytes.{Bytes, Word}
 use Rattle.image.specs.Header.{idAt, sizeAt, versionAt, codeAt}
 use Rattle.image.specs.Valid.{isValid}
 use Rattle.slot.specs.Slot.{productInside, productMarked, firstOffset, secondOffset}
 use Rattle.headers.specs.ProductHeader.{productHeaderOf}
 use Rattle.headers.specs.ImageHeader.{imageHeaderOf}
-
-abbrev pub Bytes : List ℕ → Type 0
-Bytes [] = Unit {0}
-Bytes (b ∷ bs) = (b < 256) × Bytes bs
 
 -- an image header that isn't refused, with its code behind it: a valid image of that id, size, version and code
 abbrev pub MadeImage : Type 0
@@ -30,7 +27,7 @@ MadeImage =
 -- a product header: it is marked, and names the offsets
 abbrev pub MadeProduct : Type 0
 MadeProduct =
-    (first second : ℕ) (front back : List ℕ) → first < 2 ^ 32 → second < 2 ^ 32 →
+    (first second : ℕ) (front back : List ℕ) → Word first → Word second →
     let flash = front ++ (productHeaderOf first second .bytes ++ back) in
     let offset = length front in
     (productInside flash offset ≡ true)

@@ -10,14 +10,12 @@ use Rattle.machine.specs.History.{Event}
 use Rattle.machine.specs.Lawful.{Kept, Lawful}
 use Rattle.machine.specs.Session.{Session, sound}
 
-abbrev pub Byte : ℕ → Type 0
-Byte b = b < 256
-
 -- no action has more than one symbol in view
 abbrev pub OneByOne : {A S : Type 0} → Machine A S → Type 0
 OneByOne {A} {S} m = (s : S) (views : ℕ) → m .need s ≡ acts views → views ≤ 1
 
--- Good: the symbols of a stream. Sound: what every state that calls can reach satisfies. Invariant: what the events on the way and the state that they led to satisfy
+-- Good: the symbols of a stream. Sound: what every state that calls can reach satisfies. Invariant: what the events on the way and the
+-- state that they led to satisfy
 pub record Faithful {A M S : Type 0} (σ : Session A M S) (Good : A → Type 0) (fresh : M → S) (Sound : S → Type 0) (Invariant : List (Event A S) → S → Type 0) : Type 0 where
   pub lawful : Lawful (σ .machine) Good Sound
   -- an action with nothing in view sends

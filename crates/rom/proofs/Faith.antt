@@ -6,6 +6,7 @@ use mathlib.Core.Bool.{Bool, true, false, cond, _&&_, and-false}
 use mathlib.Core.List.{List, [], _∷_}
 use lib.Dec.{eqb, leb, ltb}
 use lib.ListN.{length}
+use Rattle.wire.specs.Bytes.{Byte}
 use Rattle.wire.specs.Length.{isRamLength}
 use Rattle.wire.specs.Line.{soh, ack}
 use Rattle.wire.specs.Unit.{firstAddress}
@@ -14,7 +15,7 @@ use Rattle.machine.specs.Machine as machine
 use Rattle.machine.specs.Machine.{isRunning}
 use Rattle.machine.specs.History.{Event}
 use Rattle.machine.specs.Acknowledged.{RunsExactly}
-use Rattle.machine.specs.SessionLaws.{Byte, OneByOne, Faithful}
+use Rattle.machine.specs.SessionLaws.{OneByOne, Faithful}
 use Rattle.machine.proofs.Acknowledgements.{runs-on}
 use Rattle.machine.proofs.Lines.{line-one, line-speaks, line-kept}
 use Rattle.rom_flow.specs.declared.kind.Kind.{Kind}

@@ -3,15 +3,20 @@
 use Prim.Native.Nat.{ℕ, _+_, _<_}
 use native.Mathlib.Omega.{arith}
 use mathlib.Core.Path.{_≡_, refl, sym, ap, _∙_}
+use mathlib.Core.Bool.{true}
 use mathlib.Core.List.{List, [], _∷_}
 use lib.ListN.{length, take, getD, replicate}
 use Rattle.machine.specs.Call.{act, call}
 use Rattle.machine.specs.Session.{Answer, accepted, answerOf}
 use Rattle.machine.specs.declared.Record.{Record}
+use Rattle.wire.specs.Bytes.{Word}
 use Rattle.wire.specs.Line.{ack, nak}
 use Rattle.wire.specs.Number.{numberAt}
 use Rattle.wire.specs.Range.{liesIn}
 use Rattle.wire.specs.Length.{isBetween, isFlashLength}
+use Rattle.wire.proofs.Bytes.{areBytes, are-bytes}
+use Rattle.machine.specs.Lawful.{Every}
+use Rattle.machine.specs.Words.{wordsOf}
 use Rattle.rom_flow.specs.Receiver as receiver
 use Rattle.rom.specs.Record as rom-record
 use Rattle.command.specs.Demand.{judged}
@@ -21,7 +26,7 @@ use Rattle.uartboot_flow.specs.Fresh.{freshRecord}
 use Rattle.uartboot_record.specs.Record as device-record
 use Rattle.uartboot.specs.Session as device-session
 use Rattle.sessions.specs.Kind.{Kind, romP, romE, uartboot, MemoriesOf, sessionOf, freshRecordOf}
-use Rattle.sessions.specs.Fakes.{Routine, Keeps, headerOf, greetingLengthOf, twoWrites, small, NobodyFakes}
+use Rattle.sessions.specs.Fakes.{Routine, InBytes, Possible, Keeps, headerOf, greetingLengthOf, twoWrites, small, NobodyFakes}
 
 -- memories of an accepted length, and a first call on them with room for 16 bytes
 abbrev sample : (kind : Kind) → MemoriesOf kind
@@ -34,6 +39,20 @@ start kind = freshRecordOf kind
 
 abbrev room : List ℕ
 room = replicate 16 0x00
+
+-- such a call can be made
+words-fit : (kind : Kind) → Every Word (wordsOf (start kind))
+words-fit romP = (omega arith, (omega arith, (omega arith, (omega arith, (omega arith, (omega arith, (omega arith, (omega arith, tt))))))))
+words-fit romE = (omega arith, (omega arith, (omega arith, (omega arith, (omega arith, (omega arith, (omega arith, (omega arith, tt))))))))
+words-fit uartboot = (omega arith, (omega arith, (omega arith, (omega arith, (omega arith, (omega arith, (omega arith, (omega arith, tt))))))))
+
+sample-fits : (kind : Kind) → InBytes kind (sample kind)
+sample-fits romP = are-bytes (sample romP) refl
+sample-fits romE = are-bytes (sample romE) refl
+sample-fits uartboot = (are-bytes (small .ram) refl, are-bytes (small .flash) refl, are-bytes (small .work) refl)
+
+possible : (kind : Kind) (input reply : List ℕ) → areBytes input ≡ true → areBytes reply ≡ true → Possible kind (start kind) (sample kind) input reply
+possible kind input reply i j = record { words = words-fit kind; memories = sample-fits kind; taken-from = are-bytes input i; sent-to = are-bytes reply j }
 
 abbrev firstCall : (kind : Kind) (input : List ℕ) → Answer (MemoriesOf kind)
 firstCall kind input = answerOf (sessionOf kind) (start kind) (sample kind) input room
@@ -97,9 +116,20 @@ some romP e = omega arith
 some romE e = omega arith
 some uartboot e = omega arith
 
-numbered : (kind : Kind) (f : Routine kind) → Keeps kind f → (input : List ℕ) →
+numbered : (kind : Kind) (f : Routine kind) → Keeps kind f → (input : List ℕ) → areBytes input ≡ true →
     f (start kind) (sample kind) input room .report .number ≡ firstCall kind input .report .number
-numbered kind f keeps input = ap (λ (a : Answer (MemoriesOf kind)). a .report .number) (keeps (start kind) (sample kind) input room)
+numbered kind f keeps input e = ap (λ (a : Answer (MemoriesOf kind)). a .report .number) (keeps (start kind) (sample kind) input room (possible kind input room e refl))
+
+-- the streams below are of bytes
+refused-bytes : (kind : Kind) → areBytes (refusedStream kind) ≡ true
+refused-bytes romP = refl
+refused-bytes romE = refl
+refused-bytes uartboot = refl
+
+header-bytes : (kind : Kind) → areBytes (headerOf kind (acceptedLow kind) 0) ≡ true
+header-bytes romP = refl
+header-bytes romE = refl
+header-bytes uartboot = refl
 
 -- a call with both Writes and room for all replies
 both-written : answerOf (sessionOf uartboot) freshRecord small twoWrites (replicate 64 0x00) .memories .ram ≡ 0x11 ∷ 0x22 ∷ []
@@ -115,22 +145,26 @@ unfolding answerOf accepted
 nobody-fakes =
     record {
       no-constant-refusal = λ kind f keeps refuses.
-          refuses (start kind) (sample kind) [] room (numbered kind f keeps [] ∙ calls-accepted kind .0);
+          refuses (start kind) (sample kind) [] room (possible kind [] room refl refl) (numbered kind f keeps [] refl ∙ calls-accepted kind .0);
       no-constant-reply = λ kind f bytes keeps sends.
-          let one = ap length (sends (start kind) (sample kind) [] room refl (numbered kind f keeps [] ∙ calls-accepted kind .0)) in
-          let two = ap length (sends (start kind) (sample kind) (refusedStream kind) room refl (numbered kind f keeps (refusedStream kind) ∙ calls-accepted kind .1)) in
+          let here = possible kind [] room refl refl in
+          let there = possible kind (refusedStream kind) room (refused-bytes kind) refl in
+          let one = ap length (sends (start kind) (sample kind) [] room here refl (numbered kind f keeps [] refl ∙ calls-accepted kind .0)) in
+          let two = ap length (sends (start kind) (sample kind) (refusedStream kind) room there refl (numbered kind f keeps (refusedStream kind) (refused-bytes kind) ∙ calls-accepted kind .1)) in
           differ kind
-          (sym (ap (shownBy kind) (keeps (start kind) (sample kind) [] room) ∙ bytes-sent kind .0) ∙ one
-          ∙ sym two ∙ ap (shownBy kind) (keeps (start kind) (sample kind) (refusedStream kind) room) ∙ bytes-sent kind .1);
+          (sym (ap (shownBy kind) (keeps (start kind) (sample kind) [] room here) ∙ bytes-sent kind .0) ∙ one
+          ∙ sym two ∙ ap (shownBy kind) (keeps (start kind) (sample kind) (refusedStream kind) room there) ∙ bytes-sent kind .1);
       no-constant-nak = λ kind f keeps naks.
           let header = headerOf kind (acceptedLow kind) 0 in
-          let nak-sent = naks (sample kind) (acceptedLow kind) 0 room (some-low kind) refl (numbered kind f keeps header ∙ acknowledged kind .0) in
-          let ack-sent = ap (λ (a : Answer (MemoriesOf kind)). getD (a .reply) (greetingLengthOf kind) 0) (keeps (start kind) (sample kind) header room) ∙ acknowledged kind .1 in
+          let here = possible kind header room (header-bytes kind) refl in
+          let nak-sent = naks (sample kind) (acceptedLow kind) 0 room here (some-low kind) refl (numbered kind f keeps header (header-bytes kind) ∙ acknowledged kind .0) in
+          let ack-sent = ap (λ (a : Answer (MemoriesOf kind)). getD (a .reply) (greetingLengthOf kind) 0) (keeps (start kind) (sample kind) header room here) ∙ acknowledged kind .1 in
           let z : ack ≡ nak = sym ack-sent ∙ nak-sent in omega arith;
       no-idling = λ kind f keeps idles.
-          some kind (sym (ap (λ (a : Answer (MemoriesOf kind)). a .report .sent) (keeps (start kind) (sample kind) [] room) ∙ first-sent kind)
-          ∙ idles (start kind) (sample kind) [] room .1);
-      no-invented-counts = λ kind f keeps r mem s input reply fits reads.
-          rw (keeps r mem input reply) (simp (fits, reads) (refl, refl));
-      no-bare-acknowledgement = λ f keeps. ap (λ (a : Answer (MemoriesOf uartboot)). a .memories .ram) (keeps freshRecord small twoWrites (replicate 64 0x00)) ∙ both-written;
+          let here = possible kind [] room refl refl in
+          some kind (sym (ap (λ (a : Answer (MemoriesOf kind)). a .report .sent) (keeps (start kind) (sample kind) [] room here) ∙ first-sent kind)
+          ∙ idles (start kind) (sample kind) [] room here .1);
+      no-invented-counts = λ kind f keeps r mem s input reply here fits reads.
+          rw (keeps r mem input reply here) (simp (fits, reads) (refl, refl));
+      no-bare-acknowledgement = λ f keeps. ap (λ (a : Answer (MemoriesOf uartboot)). a .memories .ram) (keeps freshRecord small twoWrites (replicate 64 0x00) (possible uartboot twoWrites (replicate 64 0x00) refl refl)) ∙ both-written;
     }

@@ -3,8 +3,9 @@
 use Prim.Native.Nat.{ℕ}
 use mathlib.Core.Path.{_≡_, refl}
 use mathlib.Core.List.{List}
+use Rattle.wire.specs.Bytes.{Byte}
 use Rattle.machine.specs.History.{Event}
-use Rattle.machine.specs.SessionLaws.{Byte, OneByOne, Faithful}
+use Rattle.machine.specs.SessionLaws.{OneByOne, Faithful}
 use Rattle.machine.proofs.Sessions.{takes-all, definition-ends, session-claim, made-claim}
 use Rattle.rom_flow.specs.declared.kind.Kind.the-variants.{P, E}
 use Rattle.rom.specs.Record as rom-record

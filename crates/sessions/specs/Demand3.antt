@@ -14,9 +14,9 @@
 use Prim.Native.Nat.{ℕ}
 use mathlib.Core.Path.{_≡_}
 use mathlib.Core.List.{List}
+use Rattle.wire.specs.Bytes.{Byte}
 use Rattle.machine.specs.History.{Event}
 use Rattle.machine.specs.Acknowledged.{RunsExactly}
-use Rattle.machine.specs.SessionLaws.{Byte}
 use Rattle.machine.specs.SessionClaim.{TakesAll, DefinitionEnds, Claim, MadeClaim}
 use Rattle.sessions.specs.Kind.{Kind, MemoriesOf, StateOf, sessionOf, freshOf, freshRecordOf, awaitsOf, NakUnchanged}
 

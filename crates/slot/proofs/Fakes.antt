@@ -5,9 +5,11 @@ use native.Mathlib.Omega.{arith}
 use mathlib.Core.Path.{_≡_, refl, sym, ap, _∙_}
 use mathlib.Core.List.{List, _∷_, _++_}
 use lib.ListN.{replicate}
+use Rattle.wire.specs.Bytes.{Bytes}
 use Rattle.wire.specs.Number.{numberAt}
 use Rattle.wire.specs.Range.{liesIn}
 use Rattle.wire.specs.Length.{isFlashLength}
+use Rattle.wire.proofs.Bytes.{are-bytes}
 use Rattle.crc.specs.Register.{leaving, moved, placed, afterBit, afterBits, afterByte, after}
 use Rattle.crc.specs.Crc.{crcOf}
 use Rattle.image.specs.Valid.{isValid, imageAt}
@@ -31,11 +33,15 @@ both-start = (refl, refl)
 
 module _ (f : Routine) (slot : ℕ) (keeps : Keeps f) (stuck : StuckOn slot f) where
   -- where the definition names a slot, it is the one that the routine is stuck on
-  named : (flash : List ℕ) (offset given : ℕ) → selectOf flash offset ≡ starts given → given ≡ slot
-  named flash offset given e =
-      let same = keeps flash offset ∙ e in
-      sym (ap (λ (s : Selected). s .slot) same) ∙ stuck flash offset (ap (λ (s : Selected). s .number) same)
+  named : (flash : List ℕ) (given : ℕ) → Bytes flash → selectOf flash 0 ≡ starts given → given ≡ slot
+  named flash given b e =
+      let same = keeps flash 0 b (omega arith) ∙ e in
+      sym (ap (λ (s : Selected). s .slot) same) ∙ stuck flash 0 b (omega arith) (ap (λ (s : Selected). s .number) same)
 
 pub nobody-is-stuck : NobodyIsStuck
 nobody-is-stuck f slot keeps stuck =
-    omega (arith, named f slot keeps stuck (flashWith 10 9) 0 1 (both-start .0), named f slot keeps stuck (flashWith 9 10) 0 2 (both-start .1))
+    omega (
+      arith,
+      named f slot keeps stuck (flashWith 10 9) 1 (are-bytes (flashWith 10 9) refl) (both-start .0),
+      named f slot keeps stuck (flashWith 9 10) 2 (are-bytes (flashWith 9 10) refl) (both-start .1),
+    )

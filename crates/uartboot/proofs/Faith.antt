@@ -7,11 +7,12 @@ use mathlib.Core.Path.{_≡_, refl, sym, ap, subst, _∙_}
 use mathlib.Core.Bool.{Bool, true, false, cond, _&&_}
 use mathlib.Core.List.{List, [], _∷_}
 use lib.ListN.{length}
+use Rattle.wire.specs.Bytes.{Byte}
 use Rattle.machine.specs.Machine.{acts, isRunning}
 use Rattle.machine.specs.Does.{Does, takes, sends, runs, needOf, tookOf, sentOf, byteOf}
 use Rattle.machine.specs.History.{Event}
 use Rattle.machine.specs.Acknowledged.{RunsExactly}
-use Rattle.machine.specs.SessionLaws.{Byte, OneByOne, Faithful}
+use Rattle.machine.specs.SessionLaws.{OneByOne, Faithful}
 use Rattle.machine.proofs.Acknowledgements.{runs-on}
 use Rattle.machine.proofs.Doing.{Leaves, is-line, does-kept, leaves-weaken}
 use Rattle.machine.proofs.Lines.{line-one, line-speaks}

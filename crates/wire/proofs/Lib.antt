@@ -3,3 +3,4 @@ pub mod Parts
 pub mod Ranges
 pub mod Tests
 pub mod Lengths
+pub mod Bytes

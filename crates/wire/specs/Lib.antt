@@ -1,3 +1,4 @@
+pub mod Bytes
 pub mod Length
 pub mod Line
 pub mod Number
