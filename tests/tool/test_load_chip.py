@@ -32,8 +32,12 @@ class ChipCase(bench.Case):
 
     def has_port(self):
         folder = f'/proc/{self.process.pid}/fd'
-        ended = self.process.poll() is not None
-        return ended or any(os.path.realpath(os.path.join(folder, fd)) == self.port for fd in os.listdir(folder))
+        if self.process.poll() is not None:
+            return True
+        try:
+            return any(os.readlink(os.path.join(folder, fd)) == self.port for fd in os.listdir(folder))
+        except OSError:  # one was closed while it was looked at
+            return False
 
     def stop(self):
         self.process.kill()
