@@ -76,6 +76,18 @@ class Map(bench.Case):
     def test_no_header(self):
         self.check(model.flash(4 * S, (0, model.product_header(S, S)), (S, image(1, 1))), 'oo..', 0, header=S)
 
+    def test_a_flash_without_a_slot_is_no_refusal(self):
+        none = model.product_header(S, 2 * S)
+        for number, header, content in [(51, 4 * S, model.flash(4 * S)), (52, 0, model.flash(4 * S)),
+                                        (53, 0, model.flash(4 * S, (0, none)))]:
+            with self.subTest(number=number):
+                path = self.file('flash.bin', content)
+                shown, = self.json('map', path, '--header', str(header))
+                refused, = self.json('slot', path, '--header', str(header), code=bench.REFUSED)
+                self.assertEqual((shown['number'], shown['exit']), (number, bench.DONE))
+                self.assertEqual((refused['number'], refused['exit']), (number, bench.REFUSED))
+                self.assertEqual((shown['words'], shown['next']), (refused['words'], refused['next']))
+
     def test_lengths(self):
         for length in (0, S - 1, model.FLASH_MOST + S):
             self.refused(3, 'map', self.file('flash.bin', bytes(length)))

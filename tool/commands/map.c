@@ -126,7 +126,7 @@ static void print_map_json(const flash_view *v)
 {
     sectors s = sectors_of(v);
     text t = {0};
-    add_view_json(&t, v);
+    add_view_json(&t, v, DONE);
     printf("{%s,\"sectors\":%zu,\"cells\":\"%s\"}\n", t.chars, s.count, s.signs);
     text_free(&t);
     free_sectors(&s);

@@ -23,7 +23,7 @@ int run_slot(int count, char **words)
         return code;
     if (say_json) {
         text t = {0};
-        add_view_json(&t, &v);
+        add_view_json(&t, &v, REFUSED);
         printf("{%s}\n", t.chars);
         text_free(&t);
         say_json = false;

@@ -30,7 +30,8 @@ void add_image_json(text *t, const uint8_t *memory, const und_image *image);
 void print_images(const flash_view *v);
 void print_verdict(const flash_view *v);
 
-/* The same as JSON's names and values, without the braces around them. */
-void add_view_json(text *t, const flash_view *v);
+/* The same as JSON's names and values, without the braces around them. `code` is how the command ends where no slot
+   starts. */
+void add_view_json(text *t, const flash_view *v, int code);
 
 #endif

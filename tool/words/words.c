@@ -99,11 +99,16 @@ const meaning *meaning_of(uint32_t number)
 
 void text_add_meaning(text *t, const meaning *m)
 {
+    text_add_meaning_exit(t, m, REFUSED);
+}
+
+void text_add_meaning_exit(text *t, const meaning *m, int code)
+{
     text_add(t, ",\"words\":");
     text_add_json(t, m->what, strlen(m->what));
     text_add(t, ",\"next\":");
     text_add_json(t, m->next, strlen(m->next));
-    text_add(t, ",\"exit\":%d", REFUSED);
+    text_add(t, ",\"exit\":%d", code);
 }
 
 const meaning *rule_meaning(uint32_t rule)

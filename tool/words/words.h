@@ -18,6 +18,9 @@ const meaning *meaning_of(uint32_t number);
 /* A refusal as JSON has it: ,"words":..,"next":..,"exit":.. */
 void text_add_meaning(text *t, const meaning *m);
 
+/* The same with another exit code, where a command shows what the library refuses and is done all the same. */
+void text_add_meaning_exit(text *t, const meaning *m, int code);
+
 /* The first rule that an image breaks; rule 0 is "valid". It has no next step of its own. */
 const meaning *rule_meaning(uint32_t rule);
 
