@@ -1,5 +1,7 @@
 """The rules in Python, for expected answers. It shares nothing with the library."""
 import binascii
+import itertools
+import re
 import struct
 import zlib
 
@@ -85,6 +87,49 @@ def select(content, header=USUAL_HEADER):
     if max(ids) < 0:
         return 53, 0
     return 0, 1 if ids[0] >= ids[1] else 2
+
+
+def rank(field):
+    """The numbers of a version field, or None where its text is malformed."""
+    text = field.rstrip(b'\0')
+    if not re.fullmatch(rb'(0|[1-9][0-9]*)(\.(0|[1-9][0-9]*)){0,3}', text):
+        return None
+    numbers = [int(each) for each in text.split(b'.')]
+    return (numbers + [0, 0, 0])[:4] if max(numbers) <= 65535 else None
+
+
+def lower_version(content, header=USUAL_HEADER):
+    """Where the image that starts has the lower version: the slot, and version and id of both, its own first."""
+    number, slot = select(content, header)
+    offsets = struct.unpack_from('<II', content, header + 4) if number == 0 else ()
+    if number or any(broken_rule(content, at) for at in offsets):
+        return None
+    starts, stays = offsets if slot == 1 else offsets[::-1]
+    fields = [content[at + 12:at + 28] for at in (starts, stays)]
+    ranks = [rank(field) for field in fields]
+    if None in ranks or not ranks[0] < ranks[1]:
+        return None
+    return slot, *[field.rstrip(b'\0').decode() for field in fields], content[starts + 3], content[stays + 3]
+
+
+def image_bytes(content, at):
+    """The places of all bytes of an image, valid or not: those of its header alone where it can have no such code."""
+    if at + 64 > len(content) or content[at:at + 2] != b'\x70\x51':
+        return set()
+    size, = struct.unpack_from('<I', content, at + 4)
+    has_code = 1 <= size <= 131072 and at + 64 + size <= len(content)
+    return set(range(at, at + 64 + (size if has_code else 0)))
+
+
+def overlaps(content, header=USUAL_HEADER):
+    """Pairs of product header and images that share bytes, with the first and the last of these."""
+    if select(content, header)[0] in (3, 51, 52):
+        return []
+    first, second = struct.unpack_from('<II', content, header + 4)
+    places = {'product header': set(range(header, header + 12)), 'image 1': image_bytes(content, first),
+              'image 2': image_bytes(content, second)}
+    shared = [(a, b, places[a] & places[b]) for a, b in itertools.combinations(places, 2)]
+    return [(a, b, min(both), max(both)) for a, b, both in shared if both]
 
 
 def frame(kind, code):

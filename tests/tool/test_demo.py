@@ -28,6 +28,7 @@ class Demo(bench.Case):
         for words in ['boot ROM waits for code', 'running', 'Get version is done', 'Erase QSPI is done', 'Copy to QSPI is done']:
             self.assertIn(words, before)
         self.assertIn('version 1.10', after)
+        self.assertNotIn('warning', text)
 
     def test_to_a_file(self):
         with open(self.path('output'), 'w+b') as output:

@@ -4,6 +4,7 @@
 #include "memory.h"
 #include "say.h"
 #include "slot.h"
+#include "warnings.h"
 
 #include <stdbool.h>
 #include <stdio.h>
@@ -127,6 +128,7 @@ static void print_map_json(const flash_view *v)
     sectors s = sectors_of(v);
     text t = {0};
     add_view_json(&t, v, DONE);
+    add_warnings_json(&t, v);
     printf("{%s,\"sectors\":%zu,\"cells\":\"%s\"}\n", t.chars, s.count, s.signs);
     text_free(&t);
     free_sectors(&s);
@@ -144,5 +146,6 @@ int run_map(int count, char **words)
     }
     print_map(&v);
     print_verdict(&v);
+    print_warnings(&v);
     return DONE;
 }

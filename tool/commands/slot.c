@@ -5,6 +5,7 @@
 #include "options.h"
 #include "say.h"
 #include "view.h"
+#include "warnings.h"
 
 #include <stdio.h>
 
@@ -24,6 +25,7 @@ int run_slot(int count, char **words)
     if (say_json) {
         text t = {0};
         add_view_json(&t, &v, REFUSED);
+        add_warnings_json(&t, &v);
         printf("{%s}\n", t.chars);
         text_free(&t);
         say_json = false;
@@ -32,6 +34,7 @@ int run_slot(int count, char **words)
         print_images(&v);
         if (v.selected.number == 0)
             print_verdict(&v);
+        print_warnings(&v);
     }
     return v.selected.number == 0 ? DONE : refuse(v.selected.number, "%s, header at 0x%05lX", v.path, v.header);
 }
