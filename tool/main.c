@@ -3,16 +3,13 @@
 #include "exits.h"
 #include "options.h"
 #include "say.h"
+#include "version.h"
 
 #include <fcntl.h>
 #include <signal.h>
 #include <stdbool.h>
 #include <stdio.h>
 #include <string.h>
-
-#ifndef VERSION
-#define VERSION "unknown"
-#endif
 
 static const command commands[] = {
     {"slot", "FLASH [--header OFFSET] [--json]", "names the slot that will start, shows both images", run_slot},
@@ -58,7 +55,8 @@ static int print_help(const char *name)
         printf("  undalisho %-6s %s\n", commands[i].name, commands[i].summary);
     printf("\n'undalisho help COMMAND' shows a command's options.\n"
            "With no monitor at hand, begin with 'undalisho demo'.\n"
-           "Exit codes: 0 done, 1 refused, 2 wrong command line, 3 input or output failed.\n");
+           "Exit codes: 0 done, 1 refused, 2 wrong command line, 3 input or output failed; of a line also\n"
+           "4 silent, 5 noise, 6 uartboot runs already, 7 another program uses the port, 8 stopped by the user.\n");
     return DONE;
 }
 

@@ -14,7 +14,7 @@ SECONDS = 30  # how long anything may take before a test fails
 os.environ.setdefault('ASAN_OPTIONS', 'exitcode=99:detect_leaks=0')
 os.environ.setdefault('UBSAN_OPTIONS', 'print_stacktrace=1')
 
-DONE, REFUSED, MISUSED, FAILED = range(4)
+DONE, REFUSED, MISUSED, FAILED, SILENT, NOISE, UARTBOOT, BUSY, STOPPED = range(9)
 
 
 def wait_until(condition, what, seconds=SECONDS):

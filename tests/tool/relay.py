@@ -11,10 +11,11 @@ from line import Line
 
 
 class Relay:
-    """A cable: what goes in at `ports[0]` comes out at `ports[1]`, and back."""
+    """A cable: what goes in at `ports[0]` comes out at `ports[1]`, and back; with a rate, so many bytes in a second."""
 
-    def __init__(self, case, seed):
+    def __init__(self, case, seed, rate=None):
         self.rng = random.Random(seed)
+        self.rate = rate
         pairs = [pty.openpty() for _ in range(2)]
         self.ports = [os.ttyname(theirs) for _, theirs in pairs]
         self.ends = [Line(case, ours) for ours, _ in pairs]
@@ -37,8 +38,13 @@ class Relay:
             ready, _, _ = select.select([self.stop_reading, *(end.fd for end in self.ends)], [], [])
             if self.stop_reading in ready:
                 return
-            for end, other in (self.ends, self.ends[::-1]):
-                if end.fd in ready:
-                    other.write(end.some(self.rng.randint(1, 3)))
-            if self.rng.random() < 0.02:
+            passed = [self.pass_piece(end, other) for end, other in (self.ends, self.ends[::-1]) if end.fd in ready]
+            if self.rate:
+                time.sleep(max(passed) / self.rate)
+            elif self.rng.random() < 0.02:
                 time.sleep(self.rng.random() * 0.002)
+
+    def pass_piece(self, end, other):
+        piece = end.some(self.rng.randint(1, 3) if self.rate is None else self.rate // 100)
+        other.write(piece)
+        return len(piece)

@@ -24,10 +24,10 @@ class Load(bench.Case):
         player.wait()
         self.assertEqual(self.content('ram'), code.ljust(model.RAM_MOST, b'\0'))
         told = bench.objects(done.stdout)
-        self.assertEqual([event['event'] for event in told], [*ROM, 'running'])
+        self.assertEqual([event['event'] for event in told], ['loading', *ROM, 'running'])
         self.check_log(player, kind, code)
         seen = [event for event in player.events() if event['event'] in ROM]
-        self.assertEqual([event['bytes'] for event in told[:-1]], [event['bytes'] for event in seen])
+        self.assertEqual([event['bytes'] for event in told[1:-1]], [event['bytes'] for event in seen])
         self.assertFalse(os.path.lexists(player.port))
 
     def check_log(self, player, kind, code):
@@ -49,8 +49,8 @@ class Load(bench.Case):
         player.wait()
         expected = [r'chip +02 +greeting', r'host +01 03 00 +header: code.* 3 bytes', r'chip +06 +header accepted',
                     r'host +11 22 44 +code: 3 bytes', r'chip +77 +checksum', r'host +06 +acknowledged: code runs at 0x07FC0000']
-        self.assertEqual(len(lines), 7)
-        for line, pattern in zip(lines, [*expected, 'running: 3 bytes']):
+        self.assertEqual(len(lines), 8)
+        for line, pattern in zip(lines, ['loading', *expected, 'running: 3 bytes']):
             self.assertRegex(line, r'^\d\d:\d\d:\d\d\.\d{3} .*' + pattern)
         log = player.text().splitlines()
         for line, pattern in zip(log, ['playing rom on /dev/', *expected, 'code runs']):
@@ -91,7 +91,7 @@ class Load(bench.Case):
         done = self.load(player, 'p', b'code', '--quiet', '--log', 'load.log')
         player.wait()
         self.assertRegex(done.stdout, r'^[^\n]*running: 4 bytes[^\n]*\n$')
-        self.assertEqual(len(self.content('load.log').splitlines()), 7)
+        self.assertEqual(len(self.content('load.log').splitlines()), 8)
         self.assertRegex(player.read(player.output), r'^[^\n]*playing rom on /dev/[^\n]*\n$')
 
     def test_logs_are_added_to(self):
@@ -100,7 +100,7 @@ class Load(bench.Case):
         self.load(player, 'p', b'code', '--log', 'load.log')
         player.wait()
         lines = self.content('load.log').decode().splitlines()
-        self.assertEqual((lines[0], len(lines)), ('earlier', 8))
+        self.assertEqual((lines[0], len(lines)), ('earlier', 9))
 
     def test_code_that_has_no_frame(self):
         for kind, code, number in [('p', b'', 41), ('p', bytes(65536), 42), ('e', bytes(131072), 42)]:

@@ -70,3 +70,14 @@ und_report session_turn(session *s, const uint8_t *input, size_t input_len, uint
         return call(s, NULL, 0, reply, reply_len < most ? reply_len : most);
     return call(s, input, input_len < most ? input_len : most, NULL, 0);
 }
+
+size_t session_greeting(uint32_t kind, uint8_t bytes[MOST_GREETING])
+{
+    static uint8_t ram[1], flash[UND_FLASH_SECTOR], work[UND_WORK_MIN];
+    session s = {.ram = {ram, sizeof ram}, .flash = {flash, sizeof flash}, .work = {work, sizeof work}};
+    size_t count = 0;
+    session_fresh(&s, kind);
+    while (phase_of(s.record).part == GREETING && count < MOST_GREETING)
+        count += session_turn(&s, NULL, 0, bytes + count, MOST_GREETING - count).sent;
+    return count;
+}

@@ -215,7 +215,7 @@ int run_demo(int count, char **words)
     int stopped = stop_monitor();
     if (!keep)
         remove_files();
-    if (code == DONE && signals_stop())
-        return fail("run it again", "the demo was stopped");
+    if (signals_stop())
+        return end_with(STOPPED, "run it again", "stopped by the user: the demo was stopped before its end");
     return code == DONE ? stopped : code;
 }

@@ -1,7 +1,8 @@
 #include "openings.h"
 
-#include "exits.h"
 #include "say.h"
+
+#include <errno.h>
 
 int write_output(const char *path, const uint8_t *bytes, size_t length)
 {
@@ -24,6 +25,8 @@ int open_port(line *l, const char *path, unsigned long baud)
 {
     if (line_open(l, path, baud))
         return DONE;
+    if (errno == EBUSY)
+        return end_with(BUSY, "end the other program, or name another port", "busy: another program uses %s", path);
     return fail_errno("plug the adapter in, see which device it is, and that you may use it", "%s cannot be opened",
                       path);
 }

@@ -1,7 +1,7 @@
 #include "options.h"
 
-#include "exits.h"
 #include "line.h"
+#include "say.h"
 #include "undalisho.h"
 
 #include <errno.h>
@@ -12,18 +12,35 @@
 
 const command *current_command;
 
+/* Whether --json stands among the options, even where they are wrong. */
+static bool wants_json;
+
 int misuse(const char *format, ...)
 {
+    text words = {0}, next = {0};
     va_list args;
     va_start(args, format);
-    fprintf(stderr, "undalisho: ");
-    vfprintf(stderr, format, args);
+    text_add_args(&words, format, args);
     va_end(args);
+    text_add(&next, "'undalisho help%s%s' says more", current_command ? " " : "",
+             current_command ? current_command->name : "");
+    fprintf(stderr, "undalisho: %s\n", words.chars);
     if (current_command)
-        fprintf(stderr, "\nusage: undalisho %s %s", current_command->name, current_command->usage);
-    fprintf(stderr, "\n  next: 'undalisho help%s%s' says more\n", current_command ? " " : "",
-            current_command ? current_command->name : "");
+        fprintf(stderr, "usage: undalisho %s %s\n", current_command->name, current_command->usage);
+    fprintf(stderr, "  next: %s\n", next.chars);
+    if (wants_json)
+        print_saying(&(saying){MISUSED, 0, words.chars, next.chars});
+    text_free(&words);
+    text_free(&next);
     return MISUSED;
+}
+
+static bool has_json(int count, char **words)
+{
+    for (int i = 0; i < count && strcmp(words[i], "--") != 0; i++)
+        if (strcmp(words[i], "--json") == 0)
+            return true;
+    return false;
 }
 
 /* A number in decimal, or in hexadecimal after 0x. */
@@ -97,6 +114,7 @@ int read_options(int count, char **words, const option *options, int least, int 
 {
     int plain = 0;
     bool reading = true;
+    wants_json = has_json(count, words);
     for (int at = 0; at < count; at++) {
         bool is_word = !reading || words[at][0] != '-' || words[at][1] == 0;
         if (is_word)

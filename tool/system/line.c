@@ -1,7 +1,8 @@
-/* The speeds beyond 38400 are not POSIX's; where the system has them, they are used. */
+/* The speeds beyond 38400 are not POSIX's, nor is what waits to be sent; where the system has them, they are used. */
 #define _DEFAULT_SOURCE
 #include "line.h"
 
+#include "memory.h"
 #include "signals.h"
 
 #include <errno.h>
@@ -10,6 +11,7 @@
 #include <stdio.h>
 #include <stdlib.h>
 #include <string.h>
+#include <sys/ioctl.h>
 #include <termios.h>
 #include <unistd.h>
 
@@ -88,7 +90,7 @@ static bool give_up(line *l)
 
 bool line_make(line *l)
 {
-    *l = (line){NULL, posix_openpt(O_RDWR | O_NOCTTY), -1, USUAL_BAUD};
+    *l = (line){.fd = posix_openpt(O_RDWR | O_NOCTTY), .host_end = -1, .baud = USUAL_BAUD};
     if (l->fd < 0 || grantpt(l->fd) != 0 || unlockpt(l->fd) != 0)
         return give_up(l);
     const char *name = ptsname(l->fd);
@@ -103,19 +105,40 @@ bool line_make(line *l)
 
 bool line_open(line *l, const char *path, unsigned long baud)
 {
-    *l = (line){path, -1, -1, baud};
+    *l = (line){.path = path, .fd = -1, .host_end = -1, .baud = baud};
     return line_reopen(l);
+}
+
+static bool keep_settings(line *l)
+{
+    l->before = memory_of(sizeof *l->before);
+    if (tcgetattr(l->fd, l->before) == 0)
+        return true;
+    free(l->before);
+    l->before = NULL;
+    return false;
+}
+
+static void put_back_settings(line *l)
+{
+    if (l->before)
+        tcsetattr(l->fd, TCSANOW, l->before);
+    free(l->before);
+    l->before = NULL;
 }
 
 bool line_reopen(line *l)
 {
     line_close(l);
     l->fd = open(l->path, O_RDWR | O_NOCTTY | O_NONBLOCK | O_CLOEXEC);
-    return (l->fd >= 0 && make_raw(l->fd, l->baud)) || give_up(l);
+    return (l->fd >= 0 && claim_port(&l->claim, l->fd, l->path) && keep_settings(l) && make_raw(l->fd, l->baud)) ||
+           give_up(l);
 }
 
 void line_close(line *l)
 {
+    put_back_settings(l);
+    claim_drop(&l->claim, l->fd);
     if (l->fd >= 0)
         close(l->fd);
     if (l->host_end >= 0)
@@ -159,6 +182,22 @@ line_event line_write(line *l, const uint8_t *bytes, size_t length, int millisec
     if (sent > 0)
         *count = (size_t)sent;
     return sent >= 0 || errno == EAGAIN || errno == EINTR ? LINE_OK : LINE_GONE;
+}
+
+size_t line_unsent(const line *l)
+{
+#ifdef TIOCOUTQ
+    int count = 0;
+    if (ioctl(l->fd, TIOCOUTQ, &count) == 0 && count > 0)
+        return (size_t)count;
+#endif
+    return 0;
+}
+
+void line_discard(line *l)
+{
+    if (line_unsent(l) > 0)
+        tcflush(l->fd, TCOFLUSH);
 }
 
 void line_drain(line *l)

@@ -2,6 +2,8 @@
 #ifndef LINE_H
 #define LINE_H
 
+#include "claim.h"
+
 #include <stdbool.h>
 #include <stddef.h>
 #include <stdint.h>
@@ -14,6 +16,8 @@ typedef struct {
     int fd;
     int host_end; /* of a pseudo-terminal of our own; held open, so that a host may come and go; else -1 */
     unsigned long baud;
+    claim claim;            /* of a port */
+    struct termios *before; /* a port's settings before it was opened; else NULL */
 } line;
 
 typedef enum {
@@ -29,13 +33,14 @@ bool line_has_baud(unsigned long baud, char known[128]);
 /* Makes a pseudo-terminal. On failure errno says why. */
 bool line_make(line *l);
 
-/* Opens a port, raw, with 8 bits, no parity, one stop bit. What waits there already is kept. On failure errno says why.
- */
+/* Opens a port for this program alone, raw, with 8 bits, no parity, one stop bit. What waits there already is kept. On
+   failure errno says why; EBUSY: another program uses it. */
 bool line_open(line *l, const char *path, unsigned long baud);
 
 /* Opens the port again, as it was opened first. */
 bool line_reopen(line *l);
 
+/* Closes the line; a port gets back the settings that it had. */
 void line_close(line *l);
 
 /* Waits for bytes, `milliseconds` at most, or for ever if that is negative; takes what is there, up to `room`. */
@@ -43,6 +48,12 @@ line_event line_read(line *l, uint8_t *bytes, size_t room, int milliseconds, siz
 
 /* Writes some of the bytes, as many as the line takes; waits likewise until it takes one. */
 line_event line_write(line *l, const uint8_t *bytes, size_t length, int milliseconds, size_t *count);
+
+/* How many of the bytes that were written are known to wait on this side still. */
+size_t line_unsent(const line *l);
+
+/* Drops these. */
+void line_discard(line *l);
 
 /* Waits until all that was written has left; with a pseudo-terminal of our own until a host has read it, if that is
    soon: what it has not read is lost when the line is closed. */

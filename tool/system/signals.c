@@ -7,11 +7,12 @@
 
 static volatile sig_atomic_t stop, reset;
 static int ends[2] = {-1, -1};
+static bool has_button;
 
 static void on_signal(int number)
 {
     int reason = errno;
-    if (number == SIGUSR1)
+    if (number == SIGUSR1 && has_button)
         reset = 1;
     else
         stop = 1;
@@ -36,13 +37,18 @@ static bool catch (int number)
 
 bool signals_catch(bool with_button)
 {
+    static const int numbers[] = {SIGINT, SIGTERM, SIGHUP, SIGQUIT, SIGALRM, SIGUSR1, SIGUSR2};
     static pid_t owner;
     if (owner == getpid())
         return true;
     if (pipe(ends) != 0 || !prepare(ends[0]) || !prepare(ends[1]))
         return false;
     owner = getpid();
-    return catch (SIGINT) && catch (SIGTERM) && catch (SIGHUP) && (!with_button || catch (SIGUSR1));
+    has_button = with_button;
+    bool caught = true;
+    for (size_t i = 0; caught && i < sizeof numbers / sizeof *numbers; i++)
+        caught = catch (numbers[i]);
+    return caught;
 }
 
 int signals_fd(void)

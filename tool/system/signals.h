@@ -4,8 +4,9 @@
 
 #include <stdbool.h>
 
-/* From now on SIGINT, SIGTERM and SIGHUP ask for the end and, if there is a reset button, SIGUSR1 presses it; a signal
-   that is ignored stays so. A second time in one process changes nothing. */
+/* From now on each signal by which a user ends a program asks for the end, so that it can leave lines and files in
+   order; but if there is a reset button, SIGUSR1 presses it. A signal that is ignored stays so. A second time in one
+   process changes nothing. */
 bool signals_catch(bool with_button);
 
 /* Readable once a signal has come. */

@@ -93,7 +93,7 @@ static void add_for_machines(text *t, const event *e)
         text_add(t, ",\"words\":");
         text_add_json(t, e->words, strlen(e->words));
     }
-    text_add(t, "}\n");
+    text_add(t, "%s}\n", e->fields ? e->fields : "");
 }
 
 static void tell_failure(event_log *l, const char *where)
@@ -135,6 +135,34 @@ void log_note(event_log *l, const char *name, const char *path, const char *form
     text_free(&words);
 }
 
+void log_begin(event_log *l, const char *name, const char *path, const char *words)
+{
+    text all = {0}, fields = {0};
+    text_add(&all, "%s; ", words);
+    visit_add_begin(&l->visit, &all, &fields);
+    log_event(l, &(event){.name = name, .words = all.chars, .path = path, .fields = fields.chars});
+    text_free(&all);
+    text_free(&fields);
+}
+
+/* JSON has an ending's own words without the sum of the visit. */
+static void log_sum(event_log *l, const char *name, const char *result, const char *words, const saying *said)
+{
+    text all = {0}, fields = {0};
+    text_add(&all, "%s", words);
+    visit_add_end(&l->visit, result, &all, &fields);
+    if (!said)
+        text_add(&fields, ",\"exit\":%d", DONE);
+    log_event(l, &(event){.name = name, .words = all.chars, .fields = fields.chars, .said = said});
+    text_free(&all);
+    text_free(&fields);
+}
+
+void log_end(event_log *l, const char *name, const char *result, const char *words)
+{
+    log_sum(l, name, result, words, NULL);
+}
+
 static event_log *sayings_log;
 
 /* People have it on standard error already. */
@@ -145,7 +173,7 @@ static void log_saying(const saying *s)
     text words = {0};
     text_add(&words, "%s (next: %s)", s->words, s->next);
     l->quiet = !l->json;
-    log_event(l, &(event){.from = FROM_NOBODY, .name = s->name, .words = words.chars, .said = s});
+    log_sum(l, exit_word(s->code), exit_word(s->code), words.chars, s);
     l->quiet = quiet;
     text_free(&words);
 }
@@ -154,4 +182,5 @@ void log_sayings(event_log *l)
 {
     sayings_log = l;
     say_also = log_saying;
+    visit_begin(&l->visit);
 }

@@ -3,6 +3,7 @@
 #define LOG_H
 
 #include "say.h"
+#include "visit.h"
 
 #include <stdbool.h>
 
@@ -16,7 +17,8 @@ typedef struct {
     uint32_t reason; /* of a refusal, else 0 */
     const char *words;
     const char *path;   /* of a file or a line that the event is about, else NULL */
-    const saying *said; /* a refusal or a failure that the program says, else NULL */
+    const char *fields; /* further JSON names and values, each with a comma before it, else NULL */
+    const saying *said; /* an ending that the program says, else NULL */
 } event;
 
 typedef struct {
@@ -24,6 +26,7 @@ typedef struct {
     int fd;
     bool quiet, json;
     bool failed; /* a line could not be written; said once */
+    visit visit; /* that it tells of */
 } event_log;
 
 /* Opens the log's file to add to it, if it has one. On failure errno says why. */
@@ -34,7 +37,11 @@ void log_event(event_log *l, const event *e);
 void log_note(event_log *l, const char *name, const char *path, const char *format, ...) LIKE_PRINTF(4, 5);
 void log_close(event_log *l);
 
-/* From now on refusals and failures that the program says become events too. */
+/* The visit begins: endings that the program says from now on become events too, each the last of the visit. */
 void log_sayings(event_log *l);
+
+/* The first event of a visit, and the last where all is well, with what makes it traceable. */
+void log_begin(event_log *l, const char *name, const char *path, const char *words);
+void log_end(event_log *l, const char *name, const char *result, const char *words);
 
 #endif

@@ -1,6 +1,5 @@
 #include "say.h"
 
-#include "exits.h"
 #include "words.h"
 
 #include <errno.h>
@@ -11,6 +10,15 @@
 bool say_json;
 void (*say_also)(const saying *s);
 
+const char *exit_word(int code)
+{
+    static const char *const words[] = {
+        [DONE] = "done",     [REFUSED] = "refused",   [MISUSED] = "misused", [FAILED] = "failed",   [SILENT] = "silent",
+        [NOISE] = "noise",   [UARTBOOT] = "uartboot", [BUSY] = "busy",       [STOPPED] = "stopped",
+    };
+    return words[code];
+}
+
 void add_saying(text *t, const saying *s)
 {
     text_add(t, "\"words\":");
@@ -20,10 +28,10 @@ void add_saying(text *t, const saying *s)
     text_add(t, ",\"exit\":%d,\"number\":%u", s->code, s->number);
 }
 
-static void tell_json(const saying *s)
+void print_saying(const saying *s)
 {
     text t = {0};
-    text_add(&t, "{\"event\":\"%s\",", s->name);
+    text_add(&t, "{\"event\":\"%s\",", exit_word(s->code));
     add_saying(&t, s);
     printf("%s}\n", t.chars);
     text_free(&t);
@@ -36,7 +44,7 @@ static int tell(const saying *s)
     if (say_also)
         say_also(s);
     else if (say_json)
-        tell_json(s);
+        print_saying(s);
     return s->code;
 }
 
@@ -50,26 +58,26 @@ int refuse(uint32_t number, const char *about, ...)
     text_add_args(&t, about, args);
     va_end(args);
     text_add(&t, ")");
-    int code = tell(&(saying){"refused", REFUSED, number, t.chars, m->next});
+    int code = tell(&(saying){REFUSED, number, t.chars, m->next});
     text_free(&t);
     return code;
 }
 
-static int tell_args(const char *name, int code, const char *reason, const char *next, const char *what, va_list args)
+static int tell_args(int code, const char *reason, const char *next, const char *what, va_list args)
 {
     text t = {0};
     text_add_args(&t, what, args);
     text_add(&t, "%s%s", *reason ? ": " : "", reason);
-    tell(&(saying){name, code, 0, t.chars, next});
+    tell(&(saying){code, 0, t.chars, next});
     text_free(&t);
     return code;
 }
 
-int refuse_line(const char *next, const char *what, ...)
+int end_with(int code, const char *next, const char *what, ...)
 {
     va_list args;
     va_start(args, what);
-    int code = tell_args("refused", REFUSED, "", next, what, args);
+    tell_args(code, "", next, what, args);
     va_end(args);
     return code;
 }
@@ -78,27 +86,9 @@ int fail_errno(const char *next, const char *what, ...)
 {
     va_list args;
     va_start(args, what);
-    int code = tell_args("failed", FAILED, strerror(errno), next, what, args);
+    tell_args(FAILED, strerror(errno), next, what, args);
     va_end(args);
-    return code;
-}
-
-int fail(const char *next, const char *what, ...)
-{
-    va_list args;
-    va_start(args, what);
-    int code = tell_args("failed", FAILED, "", next, what, args);
-    va_end(args);
-    return code;
-}
-
-int fail_silent(const char *next, const char *what, ...)
-{
-    va_list args;
-    va_start(args, what);
-    int code = tell_args("silent", FAILED, "", next, what, args);
-    va_end(args);
-    return code;
+    return FAILED;
 }
 
 int finish(int code)

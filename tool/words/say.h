@@ -3,6 +3,7 @@
 #ifndef SAY_H
 #define SAY_H
 
+#include "exits.h"
 #include "text.h"
 
 #include <stdbool.h>
@@ -11,23 +12,25 @@
 /* A refusal of the library. `about` says of what. */
 int refuse(uint32_t number, const char *about, ...) LIKE_PRINTF(2, 3);
 
-/* A refusal of the chip at the other end. */
-int refuse_line(const char *next, const char *what, ...) LIKE_PRINTF(2, 3);
+/* An ending with this exit code. */
+int end_with(int code, const char *next, const char *what, ...) LIKE_PRINTF(3, 4);
+
+/* A refusal of the chip at the other end, or of a file. */
+#define refuse_line(...) end_with(REFUSED, __VA_ARGS__)
 
 /* A file or a line that failed; the system's reason is errno. */
 int fail_errno(const char *next, const char *what, ...) LIKE_PRINTF(2, 3);
 
 /* The same, where the system has given no reason. */
-int fail(const char *next, const char *what, ...) LIKE_PRINTF(2, 3);
+#define fail(...) end_with(FAILED, __VA_ARGS__)
 
-/* A chip that did not send, or take, what is due. */
-int fail_silent(const char *next, const char *what, ...) LIKE_PRINTF(2, 3);
+/* The word for an exit code, for machines. */
+const char *exit_word(int code);
 
 /* What is said is written to standard output as JSON too. */
 extern bool say_json;
 
 typedef struct {
-    const char *name; /* one word: refused, failed or silent */
     int code;
     uint32_t number; /* of a refusal of the library, else 0 */
     const char *words, *next;
@@ -38,6 +41,9 @@ extern void (*say_also)(const saying *s);
 
 /* Adds what is said as JSON's names and values, from "words" on. */
 void add_saying(text *t, const saying *s);
+
+/* Writes it as a JSON object to standard output. */
+void print_saying(const saying *s);
 
 /* Flushes standard output: gives `code`, or FAILED where it could not be written. */
 int finish(int code);

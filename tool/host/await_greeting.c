@@ -1,0 +1,48 @@
+#include "await.h"
+
+#include "clock.h"
+#include "endings.h"
+#include "talk.h"
+
+/* In milliseconds: how soon a chip greets that is new. */
+enum { SOON = 1000 };
+
+/* Nothing has come for a while: says once what is waited for. */
+static void tell_waiting(loading *l)
+{
+    log_note(&l->log, "waiting", l->line.path, "waiting for the greeting on %s; if it stays so, reset the monitor",
+             l->line.path);
+}
+
+static int judge(loading *l)
+{
+    if (heard_uartboot(&l->heard))
+        return end_uartboot(l);
+    if (l->heard.count > 1)
+        log_note(&l->log, "passed-over", NULL, "%zu other bytes from the chip before this were passed over",
+                 l->heard.count - 1);
+    return DONE;
+}
+
+int await_greeting(loading *l)
+{
+    long long soon = milliseconds_now() + SOON, end = soon - SOON + loading_patience(l);
+    for (bool told = false;;) {
+        bool came, greeted = heard_greeting(&l->heard) || heard_uartboot(&l->heard);
+        uint8_t byte;
+        int code = talk_hear(l, greeted ? l->heard.settled : told || soon > end ? end : soon, &byte, &came);
+        if (code != DONE)
+            return code;
+        long long now = milliseconds_now();
+        if (came)
+            hear(&l->heard, byte);
+        else if (greeted && now >= l->heard.settled)
+            return judge(l);
+        if (now >= end)
+            return end_ungreeted(l);
+        if (!told && now >= soon) {
+            tell_waiting(l);
+            told = true;
+        }
+    }
+}

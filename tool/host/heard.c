@@ -1,0 +1,43 @@
+#include "heard.h"
+
+#include "clock.h"
+
+#include <string.h>
+
+void heard_begin(heard *h, int settles)
+{
+    *h = (heard){.settles = settles};
+    h->uartboot_length = session_greeting(UND_KIND_UARTBOOT, h->uartboot);
+}
+
+bool heard_uartboot(const heard *h)
+{
+    size_t length = h->uartboot_length;
+    return h->count >= length && memcmp(h->last + MOST_GREETING - length, h->uartboot, length) == 0;
+}
+
+bool heard_greeting(const heard *h)
+{
+    return h->count > 0 && h->last[MOST_GREETING - 1] == UND_LINE_GREETING;
+}
+
+/* A chip that greets again and again is not waited for to be quiet. */
+void hear(heard *h, uint8_t byte)
+{
+    bool again = heard_greeting(h) && byte == UND_LINE_GREETING;
+    if (h->count < HEARD_SHOWN)
+        h->first[h->count] = byte;
+    h->count++;
+    memmove(h->last, h->last + 1, MOST_GREETING - 1);
+    h->last[MOST_GREETING - 1] = byte;
+    h->met_uartboot = h->met_uartboot || heard_uartboot(h);
+    if (!again)
+        h->settled = milliseconds_now() + h->settles;
+}
+
+void heard_add_first(text *t, const heard *h)
+{
+    bool whole = h->count <= HEARD_SHOWN;
+    text_add_hex(t, h->first, whole ? h->count : HEARD_SHOWN, " ");
+    text_add(t, whole ? "" : " ..");
+}
