@@ -16,16 +16,16 @@ static const command commands[] = {
     {"map", "FLASH [--header OFFSET] [--json]", "draws the flash: sectors, header, images", run_map},
     {"order", "A B [--json]", "tells which of two versions is higher", run_order},
     {"offer", "INSTALLED CANDIDATE [-o CODE] [--json]", "takes the image file with the higher version", run_offer},
-    {"frame", "--kind p|e CODE -o FRAME [--json]", "writes what a host sends to the boot ROM", run_frame},
+    {"frame", "--kind p|e CODE -o FRAME [--raw] [--json]", "writes what a host sends to the boot ROM", run_frame},
     {"play",
      "rom --kind p|e [--then-uartboot] [options]\n"
      "       undalisho play uartboot [options]\n"
      "options: --ram BYTES, --flash FILE, --work BYTES, --save-ram FILE,\n"
-     "       --port DEVICE --baud N or --link PATH, --log FILE, --quiet, --json",
+     "       --port DEVICE --baud N or --link PATH, --label TEXT, --log FILE, --quiet, --json",
      "is the monitor, on a serial port or a pseudo-terminal", run_play},
     {"load",
      "--kind p|e --port DEVICE CODE [options]\n"
-     "options: --baud N, --wait SECONDS, --log FILE, --quiet, --json",
+     "options: --raw, --baud N, --wait SECONDS, --label TEXT, --log FILE, --quiet, --json",
      "loads code through the boot ROM's line, and starts it", run_load},
     {"demo", "[--keep]", "shows all of it with no monitor plugged in", run_demo},
 };

@@ -96,7 +96,7 @@ class Demo(bench.Case):
         if process.returncode == bench.DONE:
             self.assertIn(b'slot 2 will start', rest)
             return False
-        self.assertEqual(process.returncode, bench.FAILED)
+        self.assertEqual(process.returncode, bench.STOPPED)
         self.check_complaint(errors.decode())
         self.assertIn(b'the demo was stopped', errors)
         return True

@@ -45,16 +45,49 @@ class Signals(bench.Case):
 
 
 class OneFile(bench.Case):
+    """What is written must not be what is read."""
+
+    def check(self, path, *words):
+        """Under none of its names may the file be the last of the words; it stays as it is."""
+        before = self.content(path)
+        os.link(path, self.path('hard'))
+        os.symlink(path, self.path('soft'))
+        for name in [path, os.path.relpath(path, self.folder), 'hard', 'soft']:
+            with self.subTest(words=words, name=name):
+                self.misused(*words, name, about='same file')
+        self.assertTrue(os.path.islink(self.path('soft')))
+        self.assertEqual((self.content(path), os.stat(path).st_nlink), (before, 2))
+        os.remove(self.path('hard'))
+        os.remove(self.path('soft'))
+
     def test_flash_as_log_or_ram(self):
         flash = self.file('flash.bin', model.flash(0x2000))
-        os.link(flash, self.path('other'))
-        for option in ['--log', '--save-ram']:
-            for name in ['flash.bin', 'other']:
-                self.misused('play', 'uartboot', '--flash', flash, option, name, about='same file')
-        self.assertEqual(self.content(flash), model.flash(0x2000))
+        for option in ['--log', '--save-ram', '--port']:
+            self.check(flash, 'play', 'uartboot', '--flash', flash, option)
 
     def test_log_as_ram(self):
         self.misused('play', 'uartboot', '--log', 'one', '--save-ram', 'one', about='same file')
+
+    def test_port_as_log_or_ram(self):
+        for option in ['--log', '--save-ram']:
+            self.check(self.file('port', b'port'), 'play', 'uartboot', '--port', self.path('port'), option)
+
+    def test_image_as_code(self):
+        images = [self.file(f'{version}.img', model.image(b'code', version=version.encode())) for version in ('1.0', '2.0')]
+        for path in images:
+            self.check(path, 'offer', *images, '-o')
+            self.check(path, 'offer', path, path, '-o')
+        self.tool('offer', images[0], images[0], '-o', 'code')
+        self.assertEqual(self.content('code'), b'code')
+
+    def test_code_as_frame(self):
+        code = self.file('code', b'code')
+        self.check(code, 'frame', '--kind', 'p', code, '-o')
+
+    def test_code_or_port_as_log(self):
+        code, port = self.file('code', b'code'), self.file('port', b'port')
+        self.check(code, 'load', '--kind', 'p', '--port', '/nonexistent/port', code, '--log')
+        self.check(port, 'load', '--kind', 'p', '--port', port, code, '--log')
 
 
 class Writers(bench.Case):

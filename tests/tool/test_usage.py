@@ -15,7 +15,7 @@ class Usage(bench.Case):
             text = self.tool(word).stdout
             for command in COMMANDS:
                 self.assertRegex(text, f'undalisho {command} ')
-            self.assertRegex(text, '0 done.*1 .*2 .*3 ')
+            self.assertRegex(text, '(?s)' + '.*'.join(f'{code} [a-z]+' for code in range(9)))
 
     def test_help_for_each_command(self):
         for command in COMMANDS:
@@ -31,7 +31,7 @@ class Usage(bench.Case):
             self.assertIn(f'undalisho {command}', text)
             for option in re.findall('--?[a-z-]+', self.tool('help', command).stdout.partition('usage:')[2]):
                 self.assertTrue(re.search(option + r'\b', text), (command, option))
-        self.assertEqual(re.findall(r'^\.B (\d)$', text, re.MULTILINE), ['0', '1', '2', '3'])
+        self.assertEqual(re.findall(r'^\.B (\d)$', text, re.MULTILINE), [str(code) for code in range(9)])
 
     def test_version(self):
         self.assertRegex(self.tool('--version').stdout, r'^undalisho \d+(\.\d+)+\n$')
@@ -88,6 +88,15 @@ class PlayAndLoad(bench.Case):
                       [*good, '--wait', '0'], [*good, '--wait', '1.5'], [*good, '--wait', '99999999']]:
             with self.subTest(words=words):
                 self.misused('load', *words)
+
+    def test_as_json(self):
+        """A wrong command line has a word too, wherever --json stands."""
+        code = self.file('code', b'x')
+        for words in [('load', '--json', code), ('load', code, '--nothing', '--json'), ('play', 'spi', '--json')]:
+            done = self.tool(*words, code=bench.MISUSED)
+            answer, = bench.objects(done.stdout)
+            self.assertEqual((answer['event'], answer['exit']), ('misused', bench.MISUSED))
+            self.assertIn(answer['words'], done.stderr)
 
     def test_memories_that_cannot_be(self):
         huge = (str(2**62), str(2**64 - 1))

@@ -104,6 +104,7 @@ static int turn(monitor *m, story *told, incoming *in)
     if (code != DONE)
         return code;
     story_turn(told, before, m->session.record, r.sent ? reply : taken, r.sent + r.taken);
+    visit_move(&m->log.visit, r.sent + r.taken);
     in->at += r.taken;
     send_all(m, reply, r.sent);
     return DONE;
@@ -168,6 +169,7 @@ int monitor_play(monitor *m)
     if (code == DONE && is_running(m))
         line_drain(&m->line);
     if (code == DONE)
-        log_note(&m->log, "end", NULL, is_running(m) ? "code runs: the boot line is done" : "stopped");
+        log_end(&m->log, "end", is_running(m) ? "running" : exit_word(STOPPED),
+                is_running(m) ? "code runs: the boot line is done" : "stopped");
     return code;
 }

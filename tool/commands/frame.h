@@ -4,9 +4,8 @@
 
 #include "files.h"
 
-#include <stdint.h>
-
-/* Makes the boot frame of a code file. Gives DONE, or the exit code after it has said what is wrong. */
-int read_frame(const char *path, uint32_t kind, content *frame, size_t *code_length);
+/* Makes the boot frame of a code, which was read from a path. Gives DONE, or the exit code after it has said what is
+   wrong. */
+int make_frame(const char *path, content code, uint32_t kind, content *frame);
 
 #endif

@@ -83,6 +83,9 @@ int run_offer(int count, char **words)
     const option options[] = {{"-o", WORD, &out}, {"--json", FLAG, &say_json}, {NULL, FLAG, NULL}};
     if (read_options(count, words, options, 2, 2) < 0)
         return MISUSED;
+    const file_use uses[] = {{"INSTALLED", words[0], false}, {"CANDIDATE", words[1], false}, {"-o", out, true}};
+    if (!are_separate(uses, sizeof uses / sizeof *uses))
+        return MISUSED;
     offered_file files[2] = {{.role = "installed", .path = words[0]}, {.role = "candidate", .path = words[1]}};
     for (int i = 0; i < 2; i++) {
         int code = read_image_file(&files[i]);

@@ -1,8 +1,36 @@
 #include "openings.h"
 
+#include "options.h"
 #include "say.h"
 
 #include <errno.h>
+#include <string.h>
+
+static bool is_same(const file_use *a, const file_use *b)
+{
+    return a->path && b->path && (strcmp(a->path, b->path) == 0 || is_same_file(a->path, b->path));
+}
+
+/* The first of them that clashes with another one, or NULL. */
+static const file_use *find_clash(const file_use *uses, size_t count, const file_use *other)
+{
+    for (; count > 0; count--, uses++)
+        if ((uses->written || other->written) && is_same(uses, other))
+            return uses;
+    return NULL;
+}
+
+bool are_separate(const file_use *uses, size_t count)
+{
+    for (size_t i = 0; i < count; i++) {
+        const file_use *clash = find_clash(uses, i, &uses[i]);
+        if (clash) {
+            misuse("%s and %s must not be the same file", clash->name, uses[i].name);
+            return false;
+        }
+    }
+    return true;
+}
 
 int write_output(const char *path, const uint8_t *bytes, size_t length)
 {

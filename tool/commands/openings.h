@@ -1,4 +1,4 @@
-/* What several commands open or write, and say where they can't. Each gives DONE, or the exit code. */
+/* What several commands open or write, and say where they can't. */
 #ifndef OPENINGS_H
 #define OPENINGS_H
 
@@ -6,7 +6,17 @@
 #include "line.h"
 #include "log.h"
 
-/* Writes a file that was asked for with an option. */
+/* A file that a command is given. */
+typedef struct {
+    const char *name; /* what names it on the command line */
+    const char *path; /* NULL: it was left out */
+    bool written;
+} file_use;
+
+/* Whether none that is written is another of them too, under whatever path; says so if one is. */
+bool are_separate(const file_use *uses, size_t count);
+
+/* Writes a file that was asked for with an option. This and those below give DONE, or the exit code. */
 int write_output(const char *path, const uint8_t *bytes, size_t length);
 
 /* Opens the log; what is said from now on goes there too. */

@@ -32,6 +32,7 @@ static bool read_play_options(int count, char **words, play_options *o, monitor 
         {"--port", WORD, &o->port},
         {"--baud", NUMBER, &o->baud},
         {"--link", WORD, &o->link},
+        {"--label", WORD, &m->log.visit.label},
         {"--log", WORD, &m->log.path},
         {"--quiet", FLAG, &m->log.quiet},
         {"--json", FLAG, &say_json},
@@ -138,33 +139,37 @@ static int open_line(monitor *m, const play_options *o)
 }
 
 /* Says where a host finds the monitor, even with --quiet. */
-static void announce(monitor *m, const char *what)
+static void announce(monitor *m, const char *what, const play_options *o)
 {
     bool quiet = m->log.quiet;
+    visit *v = &m->log.visit;
+    text t = {0};
+    v->port = m->line.path;
+    v->kind = o->kind ? o->kind : what;
+    v->baud = m->line.baud;
+    v->file = m->flash_file.path;
+    v->content = m->session.flash;
+    text_add(&t, "playing %s on %s", what, m->line.path);
     m->log.quiet = false;
-    log_note(&m->log, "line", m->line.path, "playing %s on %s", what, m->line.path);
+    log_begin(&m->log, "line", m->line.path, t.chars);
     m->log.quiet = quiet;
+    text_free(&t);
     if (!m->flash_file.path && (m->then_uartboot || m->kind == UND_KIND_UARTBOOT))
         log_note(&m->log, "flash-in-memory", NULL, "no --flash FILE: a blank flash of %zu bytes, gone at the end",
                  m->session.flash.length);
 }
 
-/* Whether one file is meant for two uses. */
-static bool is_used_twice(const monitor *m, const play_options *o)
-{
-    const char *paths[] = {o->flash, m->log.path, o->save_ram};
-    for (int i = 0; i < 3; i++)
-        for (int j = 0; j < i; j++)
-            if (paths[i] && paths[j] && (strcmp(paths[i], paths[j]) == 0 || is_same_file(paths[i], paths[j])))
-                return true;
-    return false;
-}
-
 /* Opens all that a monitor needs. Gives DONE, or the exit code after it has said what is wrong. */
 static int prepare(monitor *m, const play_options *o)
 {
-    if (is_used_twice(m, o))
-        return misuse("--flash, --log and --save-ram must not be the same file");
+    const file_use uses[] = {
+        {"--flash", o->flash, true},
+        {"--log", m->log.path, true},
+        {"--save-ram", o->save_ram, true},
+        {"--port", o->port, false},
+    };
+    if (!are_separate(uses, sizeof uses / sizeof *uses))
+        return MISUSED;
     int code = lend_memories(m, o);
     if (code == DONE)
         code = open_log(&m->log);
@@ -182,10 +187,11 @@ int run_play(int count, char **words)
     int code = prepare(&m, &o);
     if (code != DONE)
         return code;
-    announce(&m, words[0]);
+    announce(&m, words[0], &o);
     code = monitor_play(&m);
     int saved = o.save_ram ? write_output(o.save_ram, m.session.ram.bytes, m.session.ram.length) : DONE;
     remove_link(o.link, m.line.path);
+    line_close(&m.line);
     log_close(&m.log);
     kept_close(&m.flash_file);
     if (code == DONE)

@@ -61,7 +61,8 @@ static void add_for_people(text *t, const event *e)
     if (!whole)
         text_add(&hex, " .. %02X", e->bytes[e->count - 1]);
     add_time(t, false);
-    text_add(t, " %-4s %-*s %s\n", sender_name(e->from), HEX_WIDTH, hex.chars, e->words);
+    text_add(t, " %-4s %-*s %s%s\n", sender_name(e->from), HEX_WIDTH, hex.chars, e->words,
+             e->more ? e->more->chars : "");
     text_free(&hex);
 }
 
@@ -93,7 +94,7 @@ static void add_for_machines(text *t, const event *e)
         text_add(t, ",\"words\":");
         text_add_json(t, e->words, strlen(e->words));
     }
-    text_add(t, "%s}\n", e->fields ? e->fields : "");
+    text_add(t, "%s}\n", e->fields ? e->fields->chars : "");
 }
 
 static void tell_failure(event_log *l, const char *where)
@@ -137,30 +138,30 @@ void log_note(event_log *l, const char *name, const char *path, const char *form
 
 void log_begin(event_log *l, const char *name, const char *path, const char *words)
 {
-    text all = {0}, fields = {0};
-    text_add(&all, "%s; ", words);
-    visit_add_begin(&l->visit, &all, &fields);
-    log_event(l, &(event){.name = name, .words = all.chars, .path = path, .fields = fields.chars});
-    text_free(&all);
+    text more = {0}, fields = {0};
+    visit_add_begin(&l->visit, &more, &fields);
+    log_event(l, &(event){.name = name, .words = words, .path = path, .more = &more, .fields = &fields});
+    text_free(&more);
     text_free(&fields);
 }
 
-/* JSON has an ending's own words without the sum of the visit. */
-static void log_sum(event_log *l, const char *name, const char *result, const char *words, const saying *said)
+/* The last event, with the sum of the visit. */
+static void log_last(event_log *l, event last, const char *result)
 {
-    text all = {0}, fields = {0};
-    text_add(&all, "%s", words);
-    visit_add_end(&l->visit, result, &all, &fields);
-    if (!said)
+    text more = {0}, fields = {0};
+    visit_add_end(&l->visit, result, &more, &fields);
+    if (!last.said)
         text_add(&fields, ",\"exit\":%d", DONE);
-    log_event(l, &(event){.name = name, .words = all.chars, .fields = fields.chars, .said = said});
-    text_free(&all);
+    last.more = &more;
+    last.fields = &fields;
+    log_event(l, &last);
+    text_free(&more);
     text_free(&fields);
 }
 
 void log_end(event_log *l, const char *name, const char *result, const char *words)
 {
-    log_sum(l, name, result, words, NULL);
+    log_last(l, (event){.name = name, .words = words}, result);
 }
 
 static event_log *sayings_log;
@@ -173,7 +174,7 @@ static void log_saying(const saying *s)
     text words = {0};
     text_add(&words, "%s (next: %s)", s->words, s->next);
     l->quiet = !l->json;
-    log_sum(l, exit_word(s->code), exit_word(s->code), words.chars, s);
+    log_last(l, (event){.name = exit_word(s->code), .words = words.chars, .said = s}, exit_word(s->code));
     l->quiet = quiet;
     text_free(&words);
 }

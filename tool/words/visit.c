@@ -57,7 +57,7 @@ void visit_add_begin(const visit *v, text *words, text *fields)
 {
     text date = {0};
     add_date(&date);
-    text_add(words, "%s, undalisho %s, %s, kind %s, %lu baud", date.chars, VERSION, v->port, v->kind, v->baud);
+    text_add(words, "; %s, undalisho %s, %s, kind %s, %lu baud", date.chars, VERSION, v->port, v->kind, v->baud);
     add_word(fields, "date", date.chars);
     add_word(fields, "version", VERSION);
     add_word(fields, "port", v->port);

@@ -1,0 +1,14 @@
+/* The code that Intel HEX text makes. */
+#ifndef HEX_H
+#define HEX_H
+
+#include "code.h"
+
+/* What gaps are filled with. */
+enum { FILL = 0xFF };
+
+/* Gives DONE, or the exit code after it has said what is wrong. Of code that RAM has no room for, the first bytes are
+   given, one more than it has. */
+int read_hex(const char *path, content file, code_file *c);
+
+#endif
