@@ -17,17 +17,17 @@ class Relayed(bench.Case):
         begun = time.monotonic()
         words = ['--kind', kind, '--port', host_port, '--baud', str(baud), '--wait', '1', self.file('code', code)]
         last = self.json('load', *words)[-1]
-        self.assertGreater(time.monotonic() - begun, 1.5)
+        self.assertGreater(time.monotonic() - begun, 1.25)
         player.wait()
         self.assertEqual(self.content('ram')[:length], code)
         self.assertLess(last['bytes_per_second'], 1.2 * rate)
 
     def test_at_the_speed_of_the_line(self):
-        self.loads(1920, 9600, 960)
+        self.loads(1280, 9600, 960)
 
     def test_slower_than_the_speed_of_the_line(self):
         """Its buffers are full most of the time; what they hold at the end comes late."""
-        self.loads(131071, 115200, 40000, kind='e')
+        self.loads(131071, 115200, 60000, kind='e')
 
 
 class Late(ChipCase):
@@ -44,10 +44,10 @@ class Late(ChipCase):
 
     def test_a_checksum_in_its_time(self):
         """It comes later than --wait after the last byte was given to the line."""
-        self.start('--wait', '1', '--baud', '19200')
+        self.start('--wait', '1', '--baud', '38400')
         self.take_header()
         self.chip.write(b'\6')
-        time.sleep(10 * len(CODE) / 19200 + 0.5)
+        time.sleep(10 * len(CODE) / 38400 + 0.5)
         self.chip.expect(CODE)
         self.chip.write(bytes([model.xor(CODE)]))
         self.chip.expect(b'\6')

@@ -38,7 +38,7 @@ int await_greeting(loading *l)
             hear(&l->heard, byte);
         else if (greeted && now >= l->heard.settled)
             return judge(l);
-        if (now >= end)
+        if (now >= end + (heard_greeting(&l->heard) ? l->heard.settles : 0))
             return end_ungreeted(l);
         if (!told && now >= soon) {
             tell_waiting(l);

@@ -16,9 +16,6 @@
 
 #define LOCKS "/var/lock/"
 
-/* A lock file whose owner is gone is removed; so often it may come back before it is let be. */
-enum { TRIES = 3 };
-
 /* The lock file of a port under /dev, as other programs for serial lines name it; else NULL. */
 static char *lock_name(const char *path)
 {
@@ -81,17 +78,15 @@ static bool is_alive(long process)
     return process > 0 && process != (long)getpid() && (kill((pid_t)process, 0) == 0 || errno == EPERM);
 }
 
-/* Where no lock file can be made, there is none, and that is no failure. */
+/* A file whose owner is gone is in nobody's way. Where no file can be made, there is none, and that is no failure. */
 static bool take_lock_file(claim *c, const char *path)
 {
     char *name = lock_name(path);
-    bool made = false, used = false;
-    for (int i = 0; name && !made && !used && i < TRIES; i++) {
+    bool made = false, used = name && is_alive(owner_of(name));
+    if (name && !used) {
+        unlink(name);
         made = make_lock_file(name);
-        bool there = !made && errno == EEXIST;
-        used = there && is_alive(owner_of(name));
-        if (there && !used)
-            unlink(name);
+        used = !made && errno == EEXIST && is_alive(owner_of(name));
     }
     if (made)
         c->lock_file = name;

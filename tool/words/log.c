@@ -151,7 +151,7 @@ static void log_last(event_log *l, event last, const char *result)
     text more = {0}, fields = {0};
     visit_add_end(&l->visit, result, &more, &fields);
     if (!last.said)
-        text_add(&fields, ",\"exit\":%d", DONE);
+        text_add(&fields, ",\"exit\":%d", l->failed ? FAILED : DONE);
     last.more = &more;
     last.fields = &fields;
     log_event(l, &last);
