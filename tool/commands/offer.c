@@ -54,7 +54,7 @@ static void print_offer_json(const offered_file files[2], und_offered offered)
     text_add(&t, "{\"number\":%u,\"file\":%u,\"place\":%zu,\"size\":%zu", offered.number, offered.file, offered.place,
              offered.size);
     if (offered.number != 0)
-        text_add_meaning(&t, meaning_of(offered.number));
+        text_add_meaning(&t, meaning_of(offered.number), REFUSED);
     for (int i = 0; i < 2; i++) {
         text_add(&t, ",\"%s\":{\"path\":", files[i].role);
         text_add_json(&t, files[i].path, strlen(files[i].path));

@@ -123,7 +123,7 @@ void add_view_json(text *t, const flash_view *v, int code)
     text_add(t, ",\"bytes\":%zu,\"header\":%lu,\"slot\":%u,\"number\":%u", v->flash.length, v->header, v->selected.slot,
              v->selected.number);
     if (v->selected.number != 0)
-        text_add_meaning_exit(t, meaning_of(v->selected.number), code);
+        text_add_meaning(t, meaning_of(v->selected.number), code);
     text_add(t, ",\"images\":[");
     for (uint32_t i = 0; i < 2 && v->product.number == 0; i++) {
         text_add(t, "%s{\"slot\":%u,\"offset\":%u,", i ? "," : "", i + 1, v->offsets[i]);

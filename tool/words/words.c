@@ -97,12 +97,7 @@ const meaning *meaning_of(uint32_t number)
     return FIND(numbers, number);
 }
 
-void text_add_meaning(text *t, const meaning *m)
-{
-    text_add_meaning_exit(t, m, REFUSED);
-}
-
-void text_add_meaning_exit(text *t, const meaning *m, int code)
+void text_add_meaning(text *t, const meaning *m, int code)
 {
     text_add(t, ",\"words\":");
     text_add_json(t, m->what, strlen(m->what));

@@ -15,11 +15,8 @@ typedef struct {
 /* A refusal's number, or a session's reason; never NULL. */
 const meaning *meaning_of(uint32_t number);
 
-/* A refusal as JSON has it: ,"words":..,"next":..,"exit":.. */
-void text_add_meaning(text *t, const meaning *m);
-
-/* The same with another exit code, where a command shows what the library refuses and is done all the same. */
-void text_add_meaning_exit(text *t, const meaning *m, int code);
+/* A refusal as JSON has it, with the exit code of the command: ,"words":..,"next":..,"exit":.. */
+void text_add_meaning(text *t, const meaning *m, int code);
 
 /* The first rule that an image breaks; rule 0 is "valid". It has no next step of its own. */
 const meaning *rule_meaning(uint32_t rule);
