@@ -64,10 +64,14 @@ class ChipCase(bench.Case):
         self.chip.write(b'\2')
         self.chip.expect(HEADER)
 
-    def take_code(self, code=CODE):
-        """What a good chip does from the header's answer to the checksum."""
+    def take_code_alone(self, code=CODE):
+        """The header's answer, and the code."""
         self.chip.write(b'\6')
         self.chip.expect(code)
+
+    def take_code(self, code=CODE):
+        """What a good chip does from the header's answer on."""
+        self.take_code_alone(code)
         self.chip.write(bytes([model.xor(code)]))
         self.chip.expect(b'\6')
 

@@ -70,10 +70,9 @@ class Stopped(ChipCase):
         self.assertIn('reset', said['next'])
         self.assertEqual(bench.objects(self.content('log').decode())[-1], said)
 
-    def answer_header(self):
+    def take_all(self):
         self.take_header()
-        self.chip.write(b'\6')
-        self.chip.expect(CODE)
+        self.take_code_alone()
 
     def test_before_the_greeting(self):
         self.check(signal.SIGINT, lambda: None, 0)
@@ -84,7 +83,7 @@ class Stopped(ChipCase):
                 self.check(number, self.take_header, len(HEADER))
 
     def test_after_the_code(self):
-        self.check(signal.SIGTERM, self.answer_header, len(HEADER + CODE))
+        self.check(signal.SIGTERM, self.take_all, len(HEADER + CODE))
 
 
 class Header(ChipCase):
@@ -96,7 +95,7 @@ class Header(ChipCase):
         self.chip.expect_nothing(0)
 
     def test_answered_with_nonsense(self):
-        self.start()
+        self.start('--wait', '1')
         self.take_header()
         self.chip.write(b'\x5A')
         self.ends(bench.REFUSED, '5A')
@@ -110,16 +109,12 @@ class Header(ChipCase):
 
 
 class Checksum(ChipCase):
-    def take_code_alone(self, code=CODE):
-        self.take_header()
-        self.chip.write(b'\6')
-        self.chip.expect(code)
-
     def test_wrong(self):
         """Also where it looks like an acknowledgement, a greeting or a refusal."""
         for wrong in (model.xor(CODE) ^ 0x40, 0x06, 0x02, 0x15):
             with self.subTest(wrong=wrong):
                 self.start('--json')
+                self.take_header()
                 self.take_code_alone()
                 self.chip.write(bytes([wrong]))
                 self.ends_as('refused', bench.REFUSED, f'checksum differs, the chip has {wrong:02X}')
@@ -128,6 +123,7 @@ class Checksum(ChipCase):
 
     def test_missing(self):
         self.start('--wait', '1', '--json')
+        self.take_header()
         self.take_code_alone()
         self.ends_as('silent', bench.SILENT, 'no checksum')
         self.chip.expect_nothing(0)
@@ -135,6 +131,7 @@ class Checksum(ChipCase):
     def test_more_than_it(self):
         """A chip that waits to be told to start sends nothing behind its checksum."""
         self.start()
+        self.take_header()
         self.take_code_alone()
         self.chip.write(bytes([model.xor(CODE), 0x55]))
         self.ends(bench.REFUSED, '55')
@@ -184,8 +181,7 @@ class HangsUp(ChipCase):
     def test_before_the_checksum(self):
         self.start('--json')
         self.take_header()
-        self.chip.write(b'\6')
-        self.chip.expect(CODE)
+        self.take_code_alone()
         self.hang_up()
 
 

@@ -9,7 +9,7 @@ TEXT = b'cell 12: 3.71 V\r\n'
 
 
 class Noise(ChipCase):
-    def loads(self, *words):
+    def loads(self):
         self.take_code()
         return self.ends_as('running', bench.DONE)
 
@@ -29,7 +29,7 @@ class Noise(ChipCase):
         self.chip.expect_nothing()
         self.take_header()
         passed, = [event for event in self.loads() if event['event'] == 'passed-over']
-        self.assertIn('255 other bytes', passed['words'])
+        self.assertIn('255 bytes', passed['words'])
 
     def test_without_end(self):
         """A line that is never silent, and never greets, is not waited for for ever."""
@@ -43,7 +43,7 @@ class Noise(ChipCase):
         self.assertIsNotNone(self.process.poll(), 'load still waits for a greeting')
         words = self.ends_as('noise', bench.NOISE, 'none a greeting')[-1]['words']
         self.assertIn('55 55 55 55 55 55 55 55 ..', words)
-        self.assertLessEqual(abs(int(words.split()[1]) - sent), 2)
+        self.assertTrue(8 < int(words.split()[1]) <= sent, (words, sent))
 
     def test_chatter(self):
         """An application that runs: a greeting's byte amid its bytes is none."""
@@ -56,12 +56,12 @@ class Noise(ChipCase):
         self.chip.expect_nothing(0)
 
     def test_chatter_behind_what_looks_like_a_greeting(self):
-        self.start('--wait', '5', '--json')
+        self.start('--wait', '1', '--json')
         self.take_header()
         while self.process.poll() is None:
             self.chip.write(TEXT)
             time.sleep(0.03)
-        self.ends_as('noise', bench.NOISE, 'none an answer')
+        self.ends_as('noise', bench.NOISE, 'after the header, none an answer: ' + TEXT[:8].hex(' ').upper())
 
     def test_nobody(self):
         begun = time.monotonic()
@@ -115,13 +115,14 @@ class LostHeader(ChipCase):
                 self.assertEqual(self.headers_again(), 1)
 
     def test_after_noise(self):
-        """A monitor that was switched off and on behind the header."""
-        self.start('--json', '--wait', '5')
-        self.take_header()
-        self.chip.write(b'\xF0\0')
-        time.sleep(0.05)
-        self.take_header()
-        self.assertEqual(self.headers_again(), 1)
+        """A monitor that was switched off and on behind the header, within --wait."""
+        for noise, pause in [(b'\xF0\0', 0.05), (b'\xF0', 1.2)]:
+            self.start('--json', '--wait', '5')
+            self.take_header()
+            self.chip.write(noise)
+            time.sleep(pause)
+            self.take_header()
+            self.assertEqual(self.headers_again(), 1)
 
     def test_answer_on_its_way(self):
         """Greetings that were sent before the chip had the header don't bring a second one."""
@@ -139,9 +140,9 @@ class LostHeader(ChipCase):
             self.chip.write(b'\2')
             headers += len(self.hear(0.1)) // len(HEADER)
         self.assertLess(time.monotonic() - begun, 5)
-        said = self.ends_as('silent', bench.SILENT, 'no answer to the header')[-1]
-        self.assertIn(f'sent {headers} times', said['words'])
-        self.assertGreater(headers, 4)
+        words = self.ends_as('silent', bench.SILENT, 'no answer to the header')[-1]['words']
+        told = int(words.split()[-2])
+        self.assertTrue(4 < headers <= told <= headers + 1, (headers, words))
 
 
 class Uartboot(ChipCase):

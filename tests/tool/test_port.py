@@ -47,6 +47,11 @@ class PortCase(ChipCase):
         fcntl.flock(self.theirs, fcntl.LOCK_EX | fcntl.LOCK_NB)
         fcntl.flock(self.theirs, fcntl.LOCK_UN)
 
+    def start_alone(self, *words):
+        """Load has the port for itself."""
+        self.start(*words)
+        bench.wait_until(self.is_exclusive, 'load has the port')
+
     def loads(self):
         self.take_header()
         self.take_code()
@@ -55,7 +60,7 @@ class PortCase(ChipCase):
 
 class Busy(PortCase):
     def test_another_load(self):
-        self.start()
+        self.start_alone()
         self.is_busy()
         self.assertTrue(self.is_exclusive())
         with open(self.lock_file) as f:
@@ -72,7 +77,7 @@ class Busy(PortCase):
 
     def test_by_another_name(self):
         os.symlink(self.port, self.path('monitor'))
-        self.start()
+        self.start_alone()
         self.port = self.path('monitor')
         self.is_busy()
 
@@ -84,16 +89,18 @@ class Busy(PortCase):
         self.loads()
 
     def test_another_program_with_a_lock_file(self):
-        for content in [b'%10d\n' % os.getppid(), b'%d' % os.getppid(), struct.pack('i', os.getppid())]:
-            self.write_lock_file(content)
-            self.is_busy()
-            with open(self.lock_file, 'rb') as f:
-                self.assertEqual(f.read(), content)
+        """As text, four bytes of it too, or as the bytes of a number."""
+        for content in [b'%10d\n' % os.getppid(), b'%d' % os.getppid(), b'0001', b'  1\n', b'1', struct.pack('i', os.getppid())]:
+            with self.subTest(content=content):
+                self.write_lock_file(content)
+                self.is_busy()
+                with open(self.lock_file, 'rb') as f:
+                    self.assertEqual(f.read(), content)
 
     def test_lock_file_of_a_program_that_is_gone(self):
         gone = subprocess.Popen(['true'])
         gone.wait()
-        for content in [b'%10d\n' % gone.pid, struct.pack('i', gone.pid), b'', b'nonsense\n', b'-1\n']:
+        for content in [b'%10d\n' % gone.pid, struct.pack('i', gone.pid), b'', b'nonsense\n', b'-1\n', b'9' * 18]:
             with self.subTest(content=content):
                 self.write_lock_file(content)
                 self.start()
@@ -102,11 +109,33 @@ class Busy(PortCase):
 
     def test_killed(self):
         """What a program that was killed leaves is in nobody's way."""
-        self.start()
+        self.start_alone()
         self.stop()
         self.start()
         self.loads()
         self.is_free()
+
+
+class Played(bench.Case):
+    def test_killed(self):
+        """Nor on a player's line, which the player holds open all the time, for anyone who may use it."""
+        player = Player(self, 'rom', '--kind', 'p')
+        os.chmod(self.folder, 0o755)
+        os.chmod(os.path.realpath(player.port), 0o666)
+        bench.wait_until(lambda: self.closes(player.port), 'the line is closed to others')
+        bench.wait_until(lambda: self.opens(player.port), 'the line is open to all again')
+        player.end()
+
+    def closes(self, port):
+        """As a load does that is killed then."""
+        fd = os.open(port, os.O_RDWR | os.O_NOCTTY)
+        fcntl.ioctl(fd, termios.TIOCEXCL)
+        os.close(fd)
+        return not self.opens(port)
+
+    def opens(self, port):
+        other = {'user': 65534, 'group': 65534, 'extra_groups': []} if os.getuid() == 0 else {}
+        return subprocess.run(['sh', '-c', f': <>{port}'], stderr=subprocess.DEVNULL, **other).returncode == 0
 
 
 class Settings(PortCase):
@@ -136,8 +165,7 @@ class Settings(PortCase):
     def test_after_a_signal(self):
         for number in (signal.SIGINT, signal.SIGTERM, signal.SIGHUP, signal.SIGQUIT, signal.SIGUSR1, signal.SIGUSR2):
             with self.subTest(signal=number.name):
-                self.start()
-                bench.wait_until(self.is_exclusive, 'load has the port')
+                self.start_alone()
                 self.process.send_signal(number)
                 self.ends(bench.STOPPED)
                 self.are_back()

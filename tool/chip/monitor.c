@@ -30,7 +30,7 @@ uint32_t monitor_refusal(monitor *m)
     return number;
 }
 
-static bool is_running(const monitor *m)
+bool monitor_runs(const monitor *m)
 {
     return phase_of(m->session.record).part == RUNNING;
 }
@@ -115,11 +115,13 @@ static void receive(monitor *m, story *told, incoming *in)
 {
     size_t count;
     story_rest(told);
-    line_event happened = line_read(&m->line, in->bytes, sizeof in->bytes, -1, &count);
+    line_event happened = line_read(&m->line, in->bytes, sizeof in->bytes, RETRY_MILLISECONDS, &count);
     in->at = 0;
     in->end = count;
     if (happened == LINE_GONE)
         await_port(m);
+    if (happened == LINE_QUIET)
+        line_admit(&m->line);
 }
 
 /* A reset: what the host has sent before is lost. */
@@ -139,7 +141,7 @@ static int play_session(monitor *m, uint32_t kind, incoming *in)
     int code = DONE;
     story_begin(&told, &m->log);
     session_fresh(&m->session, kind);
-    while (code == DONE && !signals_pending() && !is_running(m)) {
+    while (code == DONE && !signals_pending() && !monitor_runs(m)) {
         if (in->at == in->end && !phase_of(m->session.record).sends)
             receive(m, &told, in);
         else
@@ -159,17 +161,14 @@ int monitor_play(monitor *m)
         if (signals_reset()) {
             press_reset(m, &in);
             kind = m->kind;
-        } else if (code == DONE && kind != UND_KIND_UARTBOOT && m->then_uartboot && is_running(m)) {
+        } else if (code == DONE && kind != UND_KIND_UARTBOOT && m->then_uartboot && monitor_runs(m)) {
             log_note(&m->log, "uartboot", NULL, "the code is taken to be uartboot, which is played now");
             kind = UND_KIND_UARTBOOT;
         } else {
             on = false;
         }
     }
-    if (code == DONE && is_running(m))
+    if (code == DONE && monitor_runs(m))
         line_drain(&m->line);
-    if (code == DONE)
-        log_end(&m->log, "end", is_running(m) ? "running" : exit_word(STOPPED),
-                is_running(m) ? "code runs: the boot line is done" : "stopped");
     return code;
 }

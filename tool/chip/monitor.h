@@ -23,4 +23,7 @@ uint32_t monitor_refusal(monitor *m);
 /* Plays until code runs or the end is asked for. Gives the exit code. */
 int monitor_play(monitor *m);
 
+/* Whether code runs. */
+bool monitor_runs(const monitor *m);
+
 #endif

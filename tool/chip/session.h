@@ -41,8 +41,9 @@ phase phase_of(const uint32_t record[UND_RECORD_WORDS]);
 
 void session_fresh(session *s, uint32_t kind);
 
-/* What a fresh session of this kind sends first. Gives how many bytes these are. */
 enum { MOST_GREETING = 8 };
+
+/* What a fresh session of this kind sends first. Gives how many bytes these are. */
 size_t session_greeting(uint32_t kind, uint8_t bytes[MOST_GREETING]);
 
 /* One call, in which bytes of one part of the flow are taken or sent. `input` is what the host has sent; `reply` has

@@ -59,7 +59,7 @@ static int refuse_form(const char *path, const form *f)
 {
     text next = {0};
     text_add(&next, "%s; --raw takes the file as it is", f->next);
-    int code = refuse_line(next.chars, "refused: %s is no code but %s", path, f->what);
+    int code = refuse_unnumbered(next.chars, "refused: %s is no code but %s", path, f->what);
     text_free(&next);
     return code;
 }

@@ -96,8 +96,8 @@ static int check_lowest(const layout *l)
     text next = {0};
     text_add(&next, "link it for 0x%08X; or move it: objcopy -I ihex -O ihex --change-addresses=%s0x%X FILE CODE",
              UND_RAM_FIRST, back ? "-" : "", back ? l->lowest - UND_RAM_FIRST : UND_RAM_FIRST - l->lowest);
-    int code = refuse_line(next.chars, "refused: the lowest address of %s is 0x%08X, and has to be 0 or 0x%08X",
-                           l->text.path, l->lowest, UND_RAM_FIRST);
+    int code = refuse_unnumbered(next.chars, "refused: the lowest address of %s is 0x%08X, and has to be 0 or 0x%08X",
+                                 l->text.path, l->lowest, UND_RAM_FIRST);
     text_free(&next);
     return code;
 }

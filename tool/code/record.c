@@ -16,8 +16,9 @@ int refuse_hex(const hex_text *t, const char *what, ...)
     va_start(args, what);
     text_add_args(&words, what, args);
     va_end(args);
-    int code = refuse_line("export the file again as Intel HEX; if it is no such text, --raw takes the file as it is",
-                           "refused: %s, line %zu: %s", t->path, t->line, words.chars);
+    int code =
+        refuse_unnumbered("export the file again as Intel HEX; if it is no such text, --raw takes the file as it is",
+                          "refused: %s, line %zu: %s", t->path, t->line, words.chars);
     text_free(&words);
     return code;
 }

@@ -4,6 +4,7 @@
 #include "exits.h"
 #include "files.h"
 #include "line.h"
+#include "openings.h"
 #include "options.h"
 #include "say.h"
 #include "signals.h"
@@ -23,7 +24,7 @@
 enum { PATIENCE = 10000, STEP = 20 };
 
 /* The demo's files, in a folder of their own. */
-static char flash[] = "flash.bin", package[] = "package.bin", visit[] = "visit.bin", port[] = "monitor",
+static char flash[] = "flash.bin", package[] = "package.bin", recording[] = "visit.bin", port[] = "monitor",
             log_file[] = "monitor.log";
 static char *folder; /* NULL until it is made */
 static pid_t monitor;
@@ -65,13 +66,13 @@ static int make_files(void)
     folder = realpath(".", NULL);
     printf("The demo's files are in %s, and its commands are run there.\n", folder);
     bool made = write_and_free(flash, demo_flash()) && write_and_free(package, demo_package()) &&
-                write_and_free(visit, demo_visit());
+                write_and_free(recording, demo_visit());
     return made ? DONE : fail_errno(next_step, "the demo's files cannot be written");
 }
 
 static void remove_files(void)
 {
-    const char *const paths[] = {flash, package, visit, port, log_file};
+    const char *const paths[] = {flash, package, recording, port, log_file};
     if (!folder)
         return;
     for (size_t i = 0; i < sizeof paths / sizeof *paths; i++)
@@ -161,9 +162,9 @@ static int play_visit(void)
 {
     line l;
     content host, replies = demo_replies();
-    if (!read_file(visit, UND_RAM_MAX, &host) || !line_open(&l, port, USUAL_BAUD))
+    if (!read_file(recording, UND_RAM_MAX, &host) || !line_open(&l, port, USUAL_BAUD))
         return fail_errno(next_step, "the visit or the monitor's line cannot be opened");
-    printf("\n$ cat %s > %s\n", visit, port);
+    printf("\n$ cat %s > %s\n", recording, port);
     fflush(stdout);
     bool same = converse(&l, host, replies);
     line_close(&l);
@@ -206,7 +207,9 @@ int run_demo(int count, char **words)
     const option options[] = {{"--keep", FLAG, &keep}, {NULL, FLAG, NULL}};
     if (read_options(count, words, options, 0, 0) < 0)
         return MISUSED;
-    int code = signals_catch(false) ? make_files() : fail_errno("try again", "signals cannot be caught");
+    int code = catch_signals(false);
+    if (code == DONE)
+        code = make_files();
     for (size_t i = 0; code == DONE && !signals_stop() && !ferror(stdout) && i < sizeof scenes / sizeof *scenes; i++) {
         if (scenes[i].headline)
             printf("\n== %s\n", scenes[i].headline);
@@ -216,6 +219,6 @@ int run_demo(int count, char **words)
     if (!keep)
         remove_files();
     if (signals_stop())
-        return end_with(STOPPED, "run it again", "stopped by the user: the demo was stopped before its end");
+        return end_with(STOPPED, "run it again", "the demo was stopped by the user");
     return code == DONE ? stopped : code;
 }

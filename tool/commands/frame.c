@@ -24,12 +24,12 @@ int make_frame(const char *path, content code, uint32_t kind, content *frame)
     return framed.number == 0 ? DONE : refuse(framed.number, "%s", path);
 }
 
-static void print_gaps(const code_file *c)
+static void print_gaps(FILE *out, const code_file *c)
 {
     for (size_t i = 0; i < c->gap_count; i++) {
         text t = {0};
         add_gap(&t, &c->gaps[i]);
-        printf("%s\n", t.chars);
+        fprintf(out, "%s\n", t.chars);
         text_free(&t);
     }
 }
@@ -49,7 +49,7 @@ static void print_frame(const char *kind, size_t length, const code_file *c)
         print_gaps_json(c);
         printf("}\n");
     } else {
-        print_gaps(c);
+        print_gaps(stdout, c);
         printf("boot frame for kind %s: %zu bytes\n", kind, length);
     }
 }
@@ -79,5 +79,7 @@ int run_frame(int count, char **words)
         code = write_output(out, frame.bytes, frame.length);
     if (code == DONE && is_regular(out))
         print_frame(kind_word, frame.length, &file);
+    else if (code == DONE)
+        print_gaps(stderr, &file); /* standard output may be where the frame goes */
     return code;
 }

@@ -6,7 +6,6 @@
 #include "openings.h"
 #include "options.h"
 #include "say.h"
-#include "signals.h"
 
 #include <unistd.h>
 
@@ -32,16 +31,11 @@ static bool read_load_options(int count, char **words, loading *l, bool *raw)
 {
     visit *v = &l->log.visit;
     const option options[] = {
-        {"--kind", WORD, &v->kind},
-        {"--port", WORD, &v->port},
-        {"--baud", NUMBER, &v->baud},
-        {"--wait", NUMBER, &l->seconds},
-        {"--raw", FLAG, raw},
-        {"--label", WORD, &v->label},
-        {"--log", WORD, &l->log.path},
-        {"--quiet", FLAG, &l->log.quiet},
-        {"--json", FLAG, &say_json},
-        {NULL, FLAG, NULL},
+        {"--kind", WORD, &v->kind},    {"--port", WORD, &v->port},
+        {"--baud", NUMBER, &v->baud},  {"--wait", NUMBER, &l->seconds},
+        {"--raw", FLAG, raw},          {"--label", WORD, &v->label},
+        {"--log", WORD, &l->log.path}, {"--quiet", FLAG, &l->log.quiet},
+        {"--json", FLAG, &say_json},   {NULL, FLAG, NULL},
     };
     if (read_options(count, words, options, 1, 1) < 0 || !read_kind(v->kind, &l->kind))
         return false;
@@ -70,14 +64,14 @@ static int prepare(loading *l, bool raw)
     if (code == DONE)
         code = make_frame(v->file, file.bytes, l->kind, &l->frame);
     if (code == DONE)
+        code = catch_signals(false);
+    if (code == DONE)
         code = open_log(&l->log);
     if (code != DONE)
         return code;
     v->content = file.bytes;
     log_begin(&l->log, "loading", v->file, "loading");
     tell_gaps(&l->log, &file);
-    if (!signals_catch(false))
-        return fail_errno("try again", "signals cannot be caught");
     return open_port(&l->line, v->port, v->baud);
 }
 
@@ -87,7 +81,7 @@ static void tell_running(event_log *l)
     text t = {0};
     text_add(&t, "running: %zu bytes of code, checksum right", l->visit.content.length);
     l->quiet = false;
-    log_end(l, "running", "running", t.chars);
+    log_end(l, exit_word(DONE), exit_word(DONE), t.chars);
     text_free(&t);
 }
 

@@ -2,6 +2,7 @@
 
 #include "options.h"
 #include "say.h"
+#include "signals.h"
 
 #include <errno.h>
 #include <string.h>
@@ -40,12 +41,17 @@ int write_output(const char *path, const uint8_t *bytes, size_t length)
                       "%s cannot be written", path);
 }
 
+int catch_signals(bool with_button)
+{
+    return signals_catch(with_button) ? DONE : fail_errno("try again", "signals cannot be caught");
+}
+
 int open_log(event_log *l)
 {
     l->json = say_json;
     if (!log_open(l))
         return fail_errno("give --log a file that you may write to", "%s cannot be written", l->path);
-    log_sayings(l);
+    log_visit(l);
     return DONE;
 }
 

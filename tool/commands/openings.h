@@ -19,6 +19,9 @@ bool are_separate(const file_use *uses, size_t count);
 /* Writes a file that was asked for with an option. This and those below give DONE, or the exit code. */
 int write_output(const char *path, const uint8_t *bytes, size_t length);
 
+/* From now on signals are caught: see signals.h. */
+int catch_signals(bool with_button);
+
 /* Opens the log; what is said from now on goes there too. */
 int open_log(event_log *l);
 

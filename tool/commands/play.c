@@ -23,20 +23,13 @@ typedef struct {
 static bool read_play_options(int count, char **words, play_options *o, monitor *m)
 {
     const option options[] = {
-        {"--kind", WORD, &o->kind},
-        {"--then-uartboot", FLAG, &m->then_uartboot},
-        {"--ram", NUMBER, &o->ram},
-        {"--flash", WORD, &o->flash},
-        {"--work", NUMBER, &o->work},
-        {"--save-ram", WORD, &o->save_ram},
-        {"--port", WORD, &o->port},
-        {"--baud", NUMBER, &o->baud},
-        {"--link", WORD, &o->link},
-        {"--label", WORD, &m->log.visit.label},
-        {"--log", WORD, &m->log.path},
-        {"--quiet", FLAG, &m->log.quiet},
-        {"--json", FLAG, &say_json},
-        {NULL, FLAG, NULL},
+        {"--kind", WORD, &o->kind},    {"--then-uartboot", FLAG, &m->then_uartboot},
+        {"--ram", NUMBER, &o->ram},    {"--flash", WORD, &o->flash},
+        {"--work", NUMBER, &o->work},  {"--save-ram", WORD, &o->save_ram},
+        {"--port", WORD, &o->port},    {"--baud", NUMBER, &o->baud},
+        {"--link", WORD, &o->link},    {"--label", WORD, &m->log.visit.label},
+        {"--log", WORD, &m->log.path}, {"--quiet", FLAG, &m->log.quiet},
+        {"--json", FLAG, &say_json},   {NULL, FLAG, NULL},
     };
     *o = (play_options){.ram = UND_RAM_MAX, .work = UND_WORK_MAX, .baud = USUAL_BAUD};
     return read_options(count, words, options, 1, 1) == 1;
@@ -139,16 +132,11 @@ static int open_line(monitor *m, const play_options *o)
 }
 
 /* Says where a host finds the monitor, even with --quiet. */
-static void announce(monitor *m, const char *what, const play_options *o)
+static void announce(monitor *m, const char *what)
 {
     bool quiet = m->log.quiet;
-    visit *v = &m->log.visit;
     text t = {0};
-    v->port = m->line.path;
-    v->kind = o->kind ? o->kind : what;
-    v->baud = m->line.baud;
-    v->file = m->flash_file.path;
-    v->content = m->session.flash;
+    m->log.visit.port = m->line.path;
     text_add(&t, "playing %s on %s", what, m->line.path);
     m->log.quiet = false;
     log_begin(&m->log, "line", m->line.path, t.chars);
@@ -170,12 +158,32 @@ static int prepare(monitor *m, const play_options *o)
     };
     if (!are_separate(uses, sizeof uses / sizeof *uses))
         return MISUSED;
+    visit *v = &m->log.visit;
     int code = lend_memories(m, o);
+    v->port = o->port;
+    v->kind = o->kind ? o->kind : "uartboot";
+    v->baud = o->baud;
+    v->file = m->flash_file.path;
+    v->content = m->session.flash;
+    if (code == DONE)
+        code = catch_signals(true);
     if (code == DONE)
         code = open_log(&m->log);
-    if (code == DONE && !signals_catch(true))
-        code = fail_errno("try again", "signals cannot be caught");
     return code == DONE ? open_line(m, o) : code;
+}
+
+/* Saves the RAM, if that was asked for. */
+static int save_ram(const monitor *m, const play_options *o)
+{
+    return o->save_ram ? write_output(o->save_ram, m->session.ram.bytes, m->session.ram.length) : DONE;
+}
+
+static void tell_end(monitor *m)
+{
+    if (monitor_runs(m))
+        log_end(&m->log, "end", exit_word(DONE), "code runs: the boot line is done");
+    else
+        log_end(&m->log, "end", exit_word(STOPPED), "stopped");
 }
 
 int run_play(int count, char **words)
@@ -187,9 +195,11 @@ int run_play(int count, char **words)
     int code = prepare(&m, &o);
     if (code != DONE)
         return code;
-    announce(&m, words[0], &o);
+    announce(&m, words[0]);
     code = monitor_play(&m);
-    int saved = o.save_ram ? write_output(o.save_ram, m.session.ram.bytes, m.session.ram.length) : DONE;
+    int saved = save_ram(&m, &o);
+    if (code == DONE && saved == DONE)
+        tell_end(&m);
     remove_link(o.link, m.line.path);
     line_close(&m.line);
     log_close(&m.log);

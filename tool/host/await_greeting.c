@@ -3,6 +3,7 @@
 #include "clock.h"
 #include "endings.h"
 #include "talk.h"
+#include "words.h"
 
 /* In milliseconds: how soon a chip greets that is new. */
 enum { SOON = 1000 };
@@ -18,15 +19,18 @@ static int judge(loading *l)
 {
     if (heard_uartboot(&l->heard))
         return end_uartboot(l);
-    if (l->heard.count > 1)
-        log_note(&l->log, "passed-over", NULL, "%zu other bytes from the chip before this were passed over",
-                 l->heard.count - 1);
+    if (l->heard.count > 1) {
+        text t = {0};
+        add_count(&t, l->heard.count - 1);
+        log_note(&l->log, "passed-over", NULL, "passed over: %s from the chip before its greeting", t.chars);
+        text_free(&t);
+    }
     return DONE;
 }
 
 int await_greeting(loading *l)
 {
-    long long soon = milliseconds_now() + SOON, end = soon - SOON + loading_patience(l);
+    long long begun = milliseconds_now(), soon = begun + SOON, end = begun + loading_patience(l);
     for (bool told = false;;) {
         bool came, greeted = heard_greeting(&l->heard) || heard_uartboot(&l->heard);
         uint8_t byte;

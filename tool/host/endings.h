@@ -13,16 +13,16 @@ int end_ungreeted(const loading *l);
 /* uartboot has greeted. */
 int end_uartboot(const loading *l);
 
-/* The header was not answered; or with NAK; or with `count` bytes that mean nothing, `byte` the first of them. */
+/* The header was not answered; or with NAK; or with bytes that mean nothing. */
 int end_unanswered(const loading *l);
 int end_header_refused(void);
-int end_header_nonsense(const loading *l, uint8_t byte, size_t count);
+int end_header_nonsense(const loading *l);
 
 /* The line takes no more bytes; the chip has sent a byte while the code was on its way; no checksum came; or another
    than the right one; or a byte behind it. */
-int end_stuck(const loading *l);
+int end_stuck(loading *l);
 int end_interrupted(loading *l, uint8_t byte);
-int end_without_checksum(const loading *l);
+int end_without_checksum(loading *l);
 int end_wrong_checksum(uint8_t wanted, uint8_t got);
 int end_behind_checksum(uint8_t byte);
 

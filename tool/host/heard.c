@@ -13,12 +13,12 @@ void heard_begin(heard *h, int settles)
 bool heard_uartboot(const heard *h)
 {
     size_t length = h->uartboot_length;
-    return h->count >= length && memcmp(h->last + MOST_GREETING - length, h->uartboot, length) == 0;
+    return memcmp(h->last + MOST_GREETING - length, h->uartboot, length) == 0;
 }
 
 bool heard_greeting(const heard *h)
 {
-    return h->count > 0 && h->last[MOST_GREETING - 1] == UND_LINE_GREETING;
+    return h->last[MOST_GREETING - 1] == UND_LINE_GREETING;
 }
 
 /* A chip that greets again and again is not waited for to be quiet. */
@@ -33,6 +33,11 @@ void hear(heard *h, uint8_t byte)
     h->met_uartboot = h->met_uartboot || heard_uartboot(h);
     if (!again)
         h->settled = milliseconds_now() + h->settles;
+}
+
+void heard_forget(heard *h)
+{
+    h->count = 0;
 }
 
 void heard_add_first(text *t, const heard *h)

@@ -1,4 +1,4 @@
-/* What came from the chip before it has taken a header. */
+/* What came from the chip, until it answers the header. */
 #ifndef HEARD_H
 #define HEARD_H
 
@@ -10,8 +10,8 @@ enum { HEARD_SHOWN = 8 };
 typedef struct {
     size_t count;
     uint8_t first[HEARD_SHOWN];
-    uint8_t last[MOST_GREETING]; /* the last of all stands last */
-    uint8_t uartboot[MOST_GREETING]; /* uartboot's greeting */
+    uint8_t last[MOST_GREETING];     /* the last of all stands last; zeros where fewer came */
+    uint8_t uartboot[MOST_GREETING]; /* uartboot's greeting, which begins with no zero */
     size_t uartboot_length;
     bool met_uartboot;
     int settles;       /* so many milliseconds after a greeting nothing more of it comes */
@@ -20,6 +20,9 @@ typedef struct {
 
 void heard_begin(heard *h, int settles);
 void hear(heard *h, uint8_t byte);
+
+/* Counts anew; what came last is remembered. */
+void heard_forget(heard *h);
 
 /* Whether what came last is uartboot's greeting, or may be the boot ROM's, whose only byte begins uartboot's too. */
 bool heard_uartboot(const heard *h);

@@ -10,20 +10,22 @@
 #include <stdlib.h>
 #include <string.h>
 
-/* In milliseconds: adapters deliver in packets, so bytes that belong together may come so far apart. */
-enum { PACKETS = 5 };
-
 long long loading_patience(const loading *l)
 {
     return (long long)l->seconds * 1000;
 }
 
-/* Waits for a byte that the receiver sends. */
-static int await(loading *l, part due, uint8_t wanted)
+/* The host's side of a part of the flow: sends what the receiver takes, waits for what it sends. */
+static int answer_part(loading *l, part now, size_t taken, uint8_t sent)
 {
-    if (due == GREETING)
-        return await_greeting(l);
-    return due == HEADER_ANSWER ? await_answer(l, wanted) : await_checksum(l, wanted);
+    switch (now) {
+    case GREETING: return await_greeting(l);
+    case HEADER: return talk_header(l, taken);
+    case HEADER_ANSWER: return await_answer(l, sent);
+    case CODE: return talk_code(l, taken);
+    case CHECKSUM: return await_checksum(l, sent);
+    default: return talk_go(l);
+    }
 }
 
 /* Lets the receiver take or send all bytes of the part of the flow that it stands in. */
@@ -43,7 +45,7 @@ static und_report turn_part(session *twin, const uint8_t *bytes, size_t length, 
 /* One part of the flow, followed on the line. */
 static int follow(loading *l, session *twin, story *told)
 {
-    uint8_t reply;
+    uint8_t reply = 0;
     uint32_t before[UND_RECORD_WORDS];
     phase now = phase_of(twin->record);
     const uint8_t *bytes = l->frame.bytes + l->sent;
@@ -51,9 +53,7 @@ static int follow(loading *l, session *twin, story *told)
     und_report r = turn_part(twin, bytes, l->frame.length - l->sent, &reply);
     if (r.number != 0)
         return refuse(r.number, "in the middle of a load");
-    int code = now.sends            ? await(l, now.part, reply)
-               : now.part == HEADER ? talk_header(l, r.taken)
-                                    : talk_code(l, r.taken);
+    int code = answer_part(l, now.part, r.taken, reply);
     if (code == DONE)
         story_turn(told, before, twin->record, now.sends ? &reply : bytes, r.sent + r.taken);
     return code;
@@ -65,8 +65,7 @@ int load_frame(loading *l)
     story told;
     int code = DONE;
     l->pace.baud = l->line.baud;
-    long long two_bytes = pace_needs(&l->pace, 2);
-    heard_begin(&l->heard, two_bytes > PACKETS ? (int)two_bytes : PACKETS);
+    heard_begin(&l->heard, line_settles(&l->line));
     session_fresh(&twin, l->kind);
     story_begin(&told, &l->log);
     while (code == DONE && phase_of(twin.record).part != RUNNING)

@@ -5,7 +5,8 @@
 /* A start bit, eight of data, a stop bit. */
 enum { BITS = 10 };
 
-long long pace_needs(const pace *p, size_t count)
+/* How long bytes need, rounded up. */
+static long long needs(const pace *p, size_t count)
 {
     unsigned long long bits = (unsigned long long)count * BITS * 1000;
     return (long long)((bits + p->baud - 1) / p->baud);
@@ -14,6 +15,7 @@ long long pace_needs(const pace *p, size_t count)
 void pace_begin(pace *p)
 {
     p->begun = milliseconds_now();
+    p->given = 0;
 }
 
 void pace_add(pace *p, size_t count)
@@ -21,7 +23,8 @@ void pace_add(pace *p, size_t count)
     long long now = milliseconds_now();
     if (p->left < now)
         p->left = now;
-    p->left += pace_needs(p, count);
+    p->left += needs(p, count);
+    p->given += count;
 }
 
 long long pace_rest(const pace *p)
@@ -34,5 +37,5 @@ long long pace_rest(const pace *p)
 long long pace_arrival(const pace *p)
 {
     long long rest = pace_rest(p), taken = milliseconds_now() - p->begun;
-    return (rest > taken ? rest : taken) * 5 / 4;
+    return (taken > needs(p, p->given) ? taken : rest) * 5 / 4;
 }

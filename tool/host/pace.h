@@ -7,11 +7,9 @@
 typedef struct {
     unsigned long baud;
     long long begun; /* when what is being sent began */
-    long long left;  /* when the last byte of it that was given to the line has left */
+    size_t given;    /* so many bytes of it were given to the line */
+    long long left;  /* when the last of these has left */
 } pace;
-
-/* Rounded up. */
-long long pace_needs(const pace *p, size_t count);
 
 /* Something new is sent. */
 void pace_begin(pace *p);
@@ -22,8 +20,8 @@ void pace_add(pace *p, size_t count);
 /* How long until they have left. */
 long long pace_rest(const pace *p);
 
-/* How long it may take until they have arrived. A line that took them more slowly than its speed says hands them on as
-   slowly, and adapters leave gaps between their packets. */
+/* How long it may take until they have arrived: adapters leave gaps between their packets, and a line that took them
+   more slowly than its speed says hands them on as slowly. */
 long long pace_arrival(const pace *p);
 
 #endif

@@ -24,45 +24,62 @@ int talk_hear(loading *l, long long until, uint8_t *byte, bool *came)
     return DONE;
 }
 
-/* Gives some bytes to the line. */
-static int give(loading *l, const uint8_t *bytes, size_t length, size_t *count)
+/* Gives some of the next bytes of the frame to the line, `most` at most. */
+static int give(loading *l, size_t most)
 {
+    size_t count;
     long long patience = loading_patience(l) + pace_rest(&l->pace);
-    line_event happened = line_write(&l->line, bytes, length, (int)patience, count);
-    pace_add(&l->pace, *count);
-    visit_move(&l->log.visit, *count);
+    line_event happened = line_write(&l->line, l->frame.bytes + l->sent, most, (int)patience, &count);
+    l->sent += count;
+    pace_add(&l->pace, count);
+    visit_move(&l->log.visit, count);
     return happened == LINE_QUIET ? end_stuck(l) : end_by_event(l, happened);
+}
+
+/* The next bytes of the frame up to `end`, which are few. */
+static int give_all(loading *l, size_t end)
+{
+    int code = DONE;
+    pace_begin(&l->pace);
+    while (code == DONE && l->sent < end)
+        code = give(l, end - l->sent);
+    return code;
 }
 
 int talk_header(loading *l, size_t length)
 {
-    int code = DONE;
-    pace_begin(&l->pace);
-    for (size_t at = 0, count; code == DONE && at < length; at += count)
-        code = give(l, l->frame.bytes + at, length - at, &count);
-    l->sent = length;
+    heard_forget(&l->heard);
     l->headers++;
+    l->sent = 0;
+    return give_all(l, length);
+}
+
+int talk_go(loading *l)
+{
+    return give_all(l, l->frame.length);
+}
+
+/* A piece of the code, if the chip is quiet. */
+static int give_piece(loading *l, size_t most)
+{
+    uint8_t byte;
+    bool came = false;
+    int code = talk_hear(l, 0, &byte, &came);
+    if (code == DONE)
+        code = came ? end_interrupted(l, byte) : give(l, most < PIECE ? most : PIECE);
     return code;
 }
 
 int talk_code(loading *l, size_t length)
 {
-    size_t begin = l->sent, end = begin + length, count;
-    bool bar = l->bar && length > 1, came = false;
-    uint8_t byte;
+    size_t begin = l->sent, end = begin + length;
     int code = DONE;
     pace_begin(&l->pace);
     while (code == DONE && l->sent < end) {
-        size_t left = end - l->sent;
-        code = talk_hear(l, 0, &byte, &came);
-        if (code == DONE && came)
-            code = end_interrupted(l, byte);
-        if (code == DONE)
-            code = give(l, l->frame.bytes + l->sent, left < PIECE ? left : PIECE, &count);
-        l->sent += code == DONE ? count : 0;
-        if (bar)
+        code = give_piece(l, end - l->sent);
+        if (l->bar)
             show_progress(l->sent - begin, length);
     }
-    end_progress(bar);
+    end_progress(l->bar);
     return code;
 }

@@ -8,10 +8,14 @@
 /* Waits for a byte until a moment; `came` says whether one did. */
 int talk_hear(loading *l, long long until, uint8_t *byte, bool *came);
 
-/* Sends the header, which is so many bytes of the frame. */
+/* Sends the header, which is so many bytes of the frame; what came before it is forgotten. */
 int talk_header(loading *l, size_t length);
 
-/* Sends further bytes of the frame. The chip has nothing to say meanwhile: where it does, the load is over. */
+/* Sends the code, the next bytes of the frame. The chip has nothing to say meanwhile: where it does, the load is over.
+ */
 int talk_code(loading *l, size_t length);
+
+/* Sends the byte that starts the code, the last of the frame. */
+int talk_go(loading *l);
 
 #endif

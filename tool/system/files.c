@@ -1,6 +1,7 @@
 #include "files.h"
 
 #include "memory.h"
+#include "paths.h"
 #include "replace.h"
 #include "signals.h"
 
@@ -9,6 +10,7 @@
 #include <limits.h>
 #include <poll.h>
 #include <stdlib.h>
+#include <string.h>
 #include <sys/stat.h>
 #include <unistd.h>
 
@@ -118,10 +120,24 @@ bool is_regular(const char *path)
     return stat(path, &there) == 0 && S_ISREG(there.st_mode);
 }
 
-bool is_same_file(const char *a, const char *b)
+static bool is_same_inode(const char *a, const char *b)
 {
     struct stat one, other;
     return stat(a, &one) == 0 && stat(b, &other) == 0 && one.st_ino == other.st_ino && one.st_dev == other.st_dev;
+}
+
+/* Two files that are not there yet are the same if they get one name in one folder. */
+bool is_same_file(const char *a, const char *b)
+{
+    if (is_same_inode(a, b))
+        return true;
+    if (access(a, F_OK) == 0 || access(b, F_OK) == 0 || strcmp(name_of(a), name_of(b)) != 0)
+        return false;
+    char *one = folder_of(a), *other = folder_of(b);
+    bool same = is_same_inode(one, other);
+    free(one);
+    free(other);
+    return same;
 }
 
 bool write_file(const char *path, const uint8_t *bytes, size_t length)

@@ -23,7 +23,7 @@ bool write_file(const char *path, const uint8_t *bytes, size_t length);
 /* Whether the path means a file on a disk. */
 bool is_regular(const char *path);
 
-/* Whether two paths mean the same file, which is there. */
+/* Whether two paths mean the same file, there or not yet there. */
 bool is_same_file(const char *a, const char *b);
 
 /* Writes all bytes to a descriptor. */

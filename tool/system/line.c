@@ -15,8 +15,9 @@
 #include <termios.h>
 #include <unistd.h>
 
-/* In milliseconds: how long a host may take to read the last bytes, and how often that is looked at. */
-enum { HOST_READS = 2000, STEP = 10 };
+/* In milliseconds: how long a host may take to read the last bytes, and how often that is looked at; and how far apart
+   adapters, which deliver in packets, may hand on bytes that belong together. */
+enum { HOST_READS = 2000, STEP = 10, PACKETS = 5 };
 
 typedef struct {
     unsigned long baud;
@@ -184,6 +185,12 @@ line_event line_write(line *l, const uint8_t *bytes, size_t length, int millisec
     return sent >= 0 || errno == EAGAIN || errno == EINTR ? LINE_OK : LINE_GONE;
 }
 
+int line_settles(const line *l)
+{
+    int two_bytes = (int)((20 * 1000 + l->baud - 1) / l->baud);
+    return two_bytes > PACKETS ? two_bytes : PACKETS;
+}
+
 size_t line_unsent(const line *l)
 {
 #ifdef TIOCOUTQ
@@ -194,6 +201,13 @@ size_t line_unsent(const line *l)
     return 0;
 }
 
+void line_admit(line *l)
+{
+    if (l->host_end >= 0)
+        ioctl(l->host_end, TIOCNXCL);
+}
+
+/* On a pseudo-terminal, where nothing waits on this side, it would take what the other end has not read yet. */
 void line_discard(line *l)
 {
     if (line_unsent(l) > 0)
@@ -206,6 +220,7 @@ void line_drain(line *l)
     if (l->host_end < 0) {
         while (tcdrain(l->fd) != 0 && errno == EINTR && !signals_stop()) {
         }
+        poll(NULL, 0, line_settles(l));
         return;
     }
     for (int waited = 0; waited < HOST_READS && poll(&unread, 1, 0) > 0; waited += STEP)

@@ -49,6 +49,13 @@ line_event line_read(line *l, uint8_t *bytes, size_t room, int milliseconds, siz
 /* Writes some of the bytes, as many as the line takes; waits likewise until it takes one. */
 line_event line_write(line *l, const uint8_t *bytes, size_t length, int milliseconds, size_t *count);
 
+/* For two byte times, at least 5 ms: in milliseconds, after which nothing more comes of what came last, and what was
+   sent last has left the adapter too. */
+int line_settles(const line *l);
+
+/* Lets hosts open a pseudo-terminal of our own, whatever a host that was killed has left there. */
+void line_admit(line *l);
+
 /* How many of the bytes that were written are known to wait on this side still. */
 size_t line_unsent(const line *l);
 

@@ -2,6 +2,7 @@
 
 #include "files.h"
 #include "lock.h"
+#include "paths.h"
 #include "text.h"
 
 #include <errno.h>
@@ -12,28 +13,13 @@
 #include <sys/stat.h>
 #include <unistd.h>
 
-static size_t folder_length(const char *path)
-{
-    const char *slash = strrchr(path, '/');
-    return slash ? (size_t)(slash - path) + 1 : 0;
-}
-
 /* The name beside a file under which its new content is written. */
 static char *new_name(const char *path)
 {
     text t = {0};
-    size_t folder = folder_length(path);
-    text_add_bytes(&t, path, folder);
-    text_add(&t, ".%s.undalisho-new", path + folder);
-    return t.chars;
-}
-
-/* The folder that a file is in. */
-static char *folder_of(const char *path)
-{
-    text t = {0};
-    text_add_bytes(&t, path, folder_length(path));
-    text_add(&t, ".");
+    const char *name = name_of(path);
+    text_add_bytes(&t, path, (size_t)(name - path));
+    text_add(&t, ".%s.undalisho-new", name);
     return t.chars;
 }
 
@@ -85,7 +71,7 @@ bool can_replace(const char *path)
     char *folder = folder_of(path), *name = new_name(path);
     errno = 0;
     long most = pathconf(folder, _PC_NAME_MAX);
-    bool fits = most < 0 || strlen(name) - folder_length(name) <= (size_t)most;
+    bool fits = most < 0 || strlen(name_of(name)) <= (size_t)most;
     if (!fits)
         errno = ENAMETOOLONG;
     bool can = fits && access(folder, W_OK | X_OK) == 0;

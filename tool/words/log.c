@@ -139,16 +139,19 @@ void log_note(event_log *l, const char *name, const char *path, const char *form
 void log_begin(event_log *l, const char *name, const char *path, const char *words)
 {
     text more = {0}, fields = {0};
+    l->begun = true;
     visit_add_begin(&l->visit, &more, &fields);
     log_event(l, &(event){.name = name, .words = words, .path = path, .more = &more, .fields = &fields});
     text_free(&more);
     text_free(&fields);
 }
 
-/* The last event, with the sum of the visit. */
+/* The last event, with the sum of the visit; before it the first, where the visit has ended before it began. */
 static void log_last(event_log *l, event last, const char *result)
 {
     text more = {0}, fields = {0};
+    if (!l->begun)
+        log_begin(l, "begin", NULL, "begin");
     visit_add_end(&l->visit, result, &more, &fields);
     if (!last.said)
         text_add(&fields, ",\"exit\":%d", l->failed ? FAILED : DONE);
@@ -179,7 +182,7 @@ static void log_saying(const saying *s)
     text_free(&words);
 }
 
-void log_sayings(event_log *l)
+void log_visit(event_log *l)
 {
     sayings_log = l;
     say_also = log_saying;

@@ -28,6 +28,7 @@ typedef struct {
     bool quiet, json;
     bool failed; /* a line could not be written; said once */
     visit visit; /* that it tells of */
+    bool begun;  /* the first event was told */
 } event_log;
 
 /* Opens the log's file to add to it, if it has one. On failure errno says why. */
@@ -39,7 +40,7 @@ void log_note(event_log *l, const char *name, const char *path, const char *form
 void log_close(event_log *l);
 
 /* The visit begins: endings that the program says from now on become events too, each the last of the visit. */
-void log_sayings(event_log *l);
+void log_visit(event_log *l);
 
 /* The first event of a visit, and the last where all is well, with what makes it traceable. */
 void log_begin(event_log *l, const char *name, const char *path, const char *words);

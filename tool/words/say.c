@@ -13,8 +13,8 @@ void (*say_also)(const saying *s);
 const char *exit_word(int code)
 {
     static const char *const words[] = {
-        [DONE] = "done",     [REFUSED] = "refused",   [MISUSED] = "misused", [FAILED] = "failed",   [SILENT] = "silent",
-        [NOISE] = "noise",   [UARTBOOT] = "uartboot", [BUSY] = "busy",       [STOPPED] = "stopped",
+        [DONE] = "running", [REFUSED] = "refused",   [MISUSED] = "misused", [FAILED] = "failed",   [SILENT] = "silent",
+        [NOISE] = "noise",  [UARTBOOT] = "uartboot", [BUSY] = "busy",       [STOPPED] = "stopped",
     };
     return words[code];
 }
@@ -63,14 +63,13 @@ int refuse(uint32_t number, const char *about, ...)
     return code;
 }
 
-static int tell_args(int code, const char *reason, const char *next, const char *what, va_list args)
+static void tell_args(int code, const char *reason, const char *next, const char *what, va_list args)
 {
     text t = {0};
     text_add_args(&t, what, args);
     text_add(&t, "%s%s", *reason ? ": " : "", reason);
     tell(&(saying){code, 0, t.chars, next});
     text_free(&t);
-    return code;
 }
 
 int end_with(int code, const char *next, const char *what, ...)

@@ -15,8 +15,8 @@ int refuse(uint32_t number, const char *about, ...) LIKE_PRINTF(2, 3);
 /* An ending with this exit code. */
 int end_with(int code, const char *next, const char *what, ...) LIKE_PRINTF(3, 4);
 
-/* A refusal of the chip at the other end, or of a file. */
-#define refuse_line(...) end_with(REFUSED, __VA_ARGS__)
+/* A refusal of the chip at the other end, or of a file: it has no number. */
+#define refuse_unnumbered(...) end_with(REFUSED, __VA_ARGS__)
 
 /* A file or a line that failed; the system's reason is errno. */
 int fail_errno(const char *next, const char *what, ...) LIKE_PRINTF(2, 3);
@@ -24,7 +24,7 @@ int fail_errno(const char *next, const char *what, ...) LIKE_PRINTF(2, 3);
 /* The same, where the system has given no reason. */
 #define fail(...) end_with(FAILED, __VA_ARGS__)
 
-/* The word for an exit code, for machines. */
+/* The word for an exit code, as a line's log has it: "running" for DONE. */
 const char *exit_word(int code);
 
 /* What is said is written to standard output as JSON too. */

@@ -43,13 +43,15 @@ static void add_word(text *fields, const char *name, const char *word)
 
 static void add_file(const visit *v, text *words, text *fields)
 {
-    if (!v->file)
+    add_word(fields, "file", v->file);
+    if (!v->file) {
+        text_add(fields, ",\"bytes\":null,\"crc32\":null");
         return;
+    }
     uint32_t crc = crc32_of(v->content);
     text_add(words, ", %s: ", v->file);
     add_count(words, v->content.length);
     text_add(words, ", CRC-32 %08X", crc);
-    add_word(fields, "file", v->file);
     text_add(fields, ",\"bytes\":%zu,\"crc32\":\"%08X\"", v->content.length, crc);
 }
 
@@ -57,7 +59,8 @@ void visit_add_begin(const visit *v, text *words, text *fields)
 {
     text date = {0};
     add_date(&date);
-    text_add(words, "; %s, undalisho %s, %s, kind %s, %lu baud", date.chars, VERSION, v->port, v->kind, v->baud);
+    text_add(words, "; %s, undalisho %s, ", date.chars, VERSION);
+    text_add(words, "%s%skind %s, %lu baud", v->port ? v->port : "", v->port ? ", " : "", v->kind, v->baud);
     add_word(fields, "date", date.chars);
     add_word(fields, "version", VERSION);
     add_word(fields, "port", v->port);

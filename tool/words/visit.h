@@ -6,10 +6,10 @@
 #include "text.h"
 
 typedef struct {
-    const char *port, *kind;
+    const char *port, *kind; /* port NULL: not known yet */
     unsigned long baud;
-    const char *file; /* that is loaded, or played as flash; NULL: none */
-    content content;  /* of the file, as it is at the beginning */
+    const char *file;  /* that is loaded, or played as flash; NULL: none */
+    content content;   /* of the file, as it is at the beginning; of code the bytes that are loaded */
     const char *label; /* the user's own words; NULL: none */
     long long begun;   /* when the visit began */
     size_t moved;      /* bytes that went over the line */

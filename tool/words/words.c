@@ -1,6 +1,5 @@
 #include "words.h"
 
-#include "exits.h"
 #include "undalisho.h"
 
 #include <stddef.h>
