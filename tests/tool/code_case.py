@@ -16,7 +16,7 @@ class CodeCase(bench.Case):
         os.remove(self.path('frame'))
 
     def check_refused(self, content, *about):
-        """No command takes the file; port, log and output stay untouched."""
+        """No command takes the file; port, log and output stay untouched. Gives what is said."""
         path = self.file('file', content)
         said = self.tool('frame', '--kind', 'e', path, '-o', 'frame', code=bench.REFUSED)
         told, = self.json('load', '--kind', 'e', '--port', '/nonexistent/port', '--log', 'log', path, code=bench.REFUSED)
@@ -27,3 +27,4 @@ class CodeCase(bench.Case):
             self.assertIn(words, said.stderr)
         self.assertEqual(os.listdir(self.folder), ['file'])
         self.assertEqual(self.content(path), content)
+        return said.stderr

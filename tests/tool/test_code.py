@@ -2,6 +2,7 @@
 import os
 
 import bench
+import hexfile
 import model
 from code_case import CodeCase
 from player import Player
@@ -27,6 +28,12 @@ class Forms(CodeCase):
                 self.check_refused(content, 'refused: ', '--raw takes the file as it is', *about)
                 if len(content) < model.RAM_MOST:
                     self.check_code(content, content, (), '--raw')
+
+    def test_in_hex_text(self):
+        for content, about in [(ELF, 'an ELF file'), (IMAGE, 'an image'), (PRODUCT, 'a product header'),
+                               (model.frame('p', CODE), 'a boot frame')]:
+            text = hexfile.text(hexfile.records(0, content))
+            self.assertNotIn('--raw', self.check_refused(text, 'refused: ', about))
 
     def test_a_file_that_is_only_like_one(self):
         frame = model.frame('p', CODE)

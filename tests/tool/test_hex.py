@@ -24,6 +24,7 @@ class Text(CodeCase):
         lines = hexfile.records(0, CODE)
         text = hexfile.text(lines)
         for content in [text.lower(), hexfile.text(lines, '\r\n'), hexfile.text(lines, ' \t\r\n'), hexfile.text(lines, '\n\r\n \n'),
+                        hexfile.text(lines, '\r'), b'\xEF\xBB\xBF' + text,
                         b'\n  \r\n\t' + text, text.rstrip(), text + b' \r\n\n\t']:
             with self.subTest(content=content[:60]):
                 self.check_code(content, CODE)

@@ -45,11 +45,16 @@ class Wrong(CodeCase):
 
     def test_characters(self):
         for at in (1, 2, 9, len(GOOD) - 2):
-            for character in 'g/:@`G \0\r\x7F':
+            for character in 'g/:@`G \0\x7F':
                 self.check_line(GOOD[:at] + character + GOOD[at + 1:], f'character {at + 1} ')
         for line in [GOOD[1:], ';' + GOOD[1:], '#', '\0' + GOOD]:
             self.check_line(line, "begins with ':'")
         self.check_line(GOOD + GOOD, f'character {len(GOOD) + 1} ')
+
+    def test_text_before_the_records(self):
+        """It is not taken for code."""
+        for before in ['; a comment\n', '# made by a tool: Ångström\r\n', 'S0030000FC\n']:
+            self.check_refused(before.encode() + hexfile.text([GOOD]), 'line 1: ', "begins with ':'")
 
     def test_end(self):
         for text in [GOOD, GOOD + '\n', GOOD + '\n\n \n', ':', GOOD + '\n' + GOOD[:-4]]:

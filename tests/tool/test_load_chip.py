@@ -155,6 +155,34 @@ class Reset(ChipCase):
         self.assertIn('reset', said['next'])
 
 
+    def test_after_the_code(self):
+        """A greeting that looks like the checksum is one where another follows; a code with that checksum loads all the same."""
+        code = CODE + bytes([model.xor(CODE) ^ 2])
+        for greetings in (1, 5):
+            with self.subTest(greetings=greetings):
+                self.start(code=code)
+                self.chip.write(b'\2')
+                self.chip.expect(model.frame('p', code)[:3])
+                self.take_code_alone(code)
+                for _ in range(greetings):
+                    self.chip.write(b'\2')
+                    time.sleep(0.1)
+                self.chip.expect(b'\6' if greetings == 1 else b'\x15')
+                self.ends(bench.DONE if greetings == 1 else bench.REFUSED)
+
+
+class Unread(ChipCase):
+    def test_nobody_reads_what_load_says(self):
+        """The line is not held up; all of it is there at the end."""
+        code = model.noise(131071)
+        self.start('--json', kind='e', code=code)
+        self.chip.write(b'\2')
+        self.chip.expect(model.frame('e', code)[:5])
+        self.take_code(code)
+        sent, = [event for event in self.ends_as('running', bench.DONE) if event['event'] == 'code']
+        self.assertEqual(bytes.fromhex(sent['bytes']), code)
+
+
 class HangsUp(ChipCase):
     """The chip's end is closed at each step."""
 

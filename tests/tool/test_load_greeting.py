@@ -1,4 +1,4 @@
-"""load before the header: noise, chatter, greetings, uartboot's among them, headers that get lost."""
+"""load before the header: noise, chatter, greetings, uartboot's among them."""
 import time
 
 import bench
@@ -55,14 +55,6 @@ class Noise(ChipCase):
         self.assertIn('application', said['next'])
         self.chip.expect_nothing(0)
 
-    def test_chatter_behind_what_looks_like_a_greeting(self):
-        self.start('--wait', '1', '--json')
-        self.take_header()
-        while self.process.poll() is None:
-            self.chip.write(TEXT)
-            time.sleep(0.03)
-        self.ends_as('noise', bench.NOISE, 'after the header, none an answer: ' + TEXT[:8].hex(' ').upper())
-
     def test_nobody(self):
         begun = time.monotonic()
         self.start('--wait', '1', '--json')
@@ -93,58 +85,6 @@ class Greetings(ChipCase):
         self.ends(bench.DONE)
 
 
-class LostHeader(ChipCase):
-    def headers_again(self):
-        self.take_code()
-        told = [event['event'] for event in self.ends_as('running', bench.DONE)]
-        return told.count('header-again')
-
-    def test_in_windows(self):
-        self.start('--json', '--wait', '5')
-        self.assertGreaterEqual(self.greet_in_windows(missed=3), 4)
-        self.assertGreaterEqual(self.headers_again(), 3)
-
-    def test_greeted_once_more(self):
-        """At once, or later; after that the chip waits for ever."""
-        for pause in (0, 0.06, 0.3):
-            with self.subTest(pause=pause):
-                self.start('--json', '--wait', '5')
-                self.take_header()
-                time.sleep(pause)
-                self.take_header()
-                self.assertEqual(self.headers_again(), 1)
-
-    def test_after_noise(self):
-        """A monitor that was switched off and on behind the header, within --wait."""
-        for noise, pause in [(b'\xF0\0', 0.05), (b'\xF0', 1.2)]:
-            self.start('--json', '--wait', '5')
-            self.take_header()
-            self.chip.write(noise)
-            time.sleep(pause)
-            self.take_header()
-            self.assertEqual(self.headers_again(), 1)
-
-    def test_answer_on_its_way(self):
-        """Greetings that were sent before the chip had the header don't bring a second one."""
-        self.start('--json')
-        self.take_header()
-        self.chip.write(b'\2\2\2')
-        self.assertEqual(self.headers_again(), 0)
-
-    def test_never_answered(self):
-        """The chip greets for ever; load doesn't wait for ever."""
-        begun = time.monotonic()
-        self.start('--json', '--wait', '1')
-        headers = 0
-        while self.process.poll() is None:
-            self.chip.write(b'\2')
-            headers += len(self.hear(0.1)) // len(HEADER)
-        self.assertLess(time.monotonic() - begun, 5)
-        words = self.ends_as('silent', bench.SILENT, 'no answer to the header')[-1]['words']
-        told = int(words.split()[-2])
-        self.assertTrue(4 < headers <= told <= headers + 1, (headers, words))
-
-
 class Uartboot(ChipCase):
     def runs_already(self):
         said = self.ends_as('uartboot', bench.UARTBOOT, 'uartboot runs already')[-1]
@@ -171,11 +111,13 @@ class Uartboot(ChipCase):
 
     def test_reset_since(self):
         """The boot ROM's greeting behind it counts."""
-        self.chip.write(model.GREETING + b'\2')
-        self.start('--json')
-        self.chip.expect(HEADER)
-        self.take_code()
-        self.ends_as('running', bench.DONE)
+        for pause in (0, 0.1):
+            self.chip.write(model.GREETING)
+            self.start('--json')
+            time.sleep(pause)
+            self.take_header()
+            self.take_code()
+            self.ends_as('running', bench.DONE)
 
 
 if __name__ == '__main__':

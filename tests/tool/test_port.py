@@ -88,6 +88,12 @@ class Busy(PortCase):
         self.start()
         self.loads()
 
+    def test_another_program_that_has_closed_it(self):
+        """It stays closed for that program."""
+        fcntl.ioctl(self.theirs, termios.TIOCEXCL)
+        self.is_busy()
+        self.assertTrue(self.is_exclusive())
+
     def test_another_program_with_a_lock_file(self):
         """As text, four bytes of it too, or as the bytes of a number."""
         for content in [b'%10d\n' % os.getppid(), b'%d' % os.getppid(), b'0001', b'  1\n', b'1', struct.pack('i', os.getppid())]:

@@ -65,6 +65,12 @@ class OneFile(bench.Case):
         for option in ['--log', '--save-ram', '--port']:
             self.check(flash, 'play', 'uartboot', '--flash', flash, option)
 
+    def test_link_as_log_or_ram(self):
+        for option in ['--log', '--save-ram']:
+            self.misused('play', 'uartboot', '--link', 'one', option, 'one', about='same file')
+            self.misused('play', 'uartboot', '--link', 'one', option, './one', about='same file')
+        self.assertEqual(os.listdir(self.folder), [])
+
     def test_log_as_ram(self):
         self.misused('play', 'uartboot', '--log', 'one', '--save-ram', 'one', about='same file')
 

@@ -55,10 +55,14 @@ static const form *form_of(content file)
     return is_frame(file) ? &frame_form : NULL;
 }
 
-static int refuse_form(const char *path, const form *f)
+/* Refuses bytes that are no code. Only those that are in the file as they are could be taken all the same. */
+static int check_form(const char *path, content bytes, bool as_they_are)
 {
+    const form *f = form_of(bytes);
+    if (!f)
+        return DONE;
     text next = {0};
-    text_add(&next, "%s; --raw takes the file as it is", f->next);
+    text_add(&next, "%s%s", f->next, as_they_are ? "; --raw takes the file as it is" : "");
     int code = refuse_unnumbered(next.chars, "refused: %s is no code but %s", path, f->what);
     text_free(&next);
     return code;
@@ -73,11 +77,10 @@ int read_code(const char *path, bool raw, code_file *c)
     if (!raw && file.length <= LARGEST_FILE && is_hex_text(file)) {
         int code = read_hex(path, file, c);
         free(file.bytes);
-        return code;
+        return code == DONE ? check_form(path, c->bytes, false) : code;
     }
     c->bytes = file;
-    const form *known = raw ? NULL : form_of(file);
-    return known ? refuse_form(path, known) : DONE;
+    return raw ? DONE : check_form(path, file, true);
 }
 
 void add_gap(text *t, const gap *g)

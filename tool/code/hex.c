@@ -9,8 +9,6 @@
 #include <stdlib.h>
 #include <string.h>
 
-enum { ROOM = UND_RAM_MAX + 1 };
-
 /* What the records say, and where it lies. */
 typedef struct {
     hex_text text;
@@ -18,7 +16,7 @@ typedef struct {
     bool wraps;    /* these wrap inside of 64 KiB, as they do in a segment */
     bool any;      /* there is data, from the lowest to the highest address */
     uint32_t lowest, highest;
-    uint8_t *bytes; /* from the lowest address on, as far as there is room */
+    uint8_t *bytes; /* from the lowest address on */
     bool *given;    /* which of them the file has */
 } layout;
 
@@ -39,8 +37,6 @@ static int note_address(layout *l, uint32_t address, uint8_t byte)
 static int lay_byte(layout *l, uint32_t address, uint8_t byte)
 {
     uint32_t at = address - l->lowest;
-    if (at >= ROOM)
-        return DONE;
     if (l->given[at] && l->bytes[at] != byte)
         return refuse_hex(&l->text, "address 0x%08X has %02X here, and %02X in an earlier line", address, byte,
                           l->bytes[at]);
@@ -76,7 +72,7 @@ static int take_all(layout *l, const char *path, content file, taker *take)
 {
     hex_record r;
     int code;
-    l->text = (hex_text){.path = path, .left = file};
+    l->text = hex_begin(path, file);
     l->base = 0;
     l->wraps = false;
     do {
@@ -88,8 +84,10 @@ static int take_all(layout *l, const char *path, content file, taker *take)
 }
 
 /* Code goes to RAM from the first byte on; the text may count from 0, or have the RAM's own addresses. */
-static int check_lowest(const layout *l)
+static int check_addresses(const layout *l)
 {
+    if (l->any && l->highest - l->lowest >= UND_RAM_MAX)
+        return refuse(UND_LONG_CODE, "%s reaches from 0x%08X to 0x%08X", l->text.path, l->lowest, l->highest);
     if (!l->any || l->lowest == 0 || l->lowest == UND_RAM_FIRST)
         return DONE;
     bool back = l->lowest > UND_RAM_FIRST;
@@ -120,15 +118,15 @@ int read_hex(const char *path, content file, code_file *c)
     layout l = {.any = false};
     int code = take_all(&l, path, file, note_address);
     if (code == DONE)
-        code = check_lowest(&l);
+        code = check_addresses(&l);
     if (code != DONE)
         return code;
-    l.bytes = memory_of(ROOM);
-    l.given = memory_of(ROOM * sizeof *l.given);
-    memset(l.bytes, FILL, ROOM);
+    size_t length = l.any ? (size_t)(l.highest - l.lowest) + 1 : 0;
+    l.bytes = memory_of(length);
+    l.given = memory_of(length * sizeof *l.given);
+    memset(l.bytes, FILL, length);
     code = take_all(&l, path, file, lay_byte);
-    uint32_t span = l.highest - l.lowest;
-    c->bytes = (content){l.bytes, !l.any ? 0 : span < ROOM ? span + 1 : ROOM};
+    c->bytes = (content){l.bytes, length};
     if (code == DONE)
         list_gaps(&l, c);
     free(l.given);

@@ -7,8 +7,7 @@
 /* What gaps are filled with. */
 enum { FILL = 0xFF };
 
-/* Gives DONE, or the exit code after it has said what is wrong. Of code that RAM has no room for, the first bytes are
-   given, one more than it has. */
+/* Gives DONE, or the exit code after it has said what is wrong. Code that no RAM has room for is refused. */
 int read_hex(const char *path, content file, code_file *c);
 
 #endif

@@ -44,18 +44,19 @@ static content cut_blanks(content c)
     return c;
 }
 
-bool is_hex_text(content file)
+/* How many bytes the first line has, with its end: LF, CR or both. */
+static size_t line_length(content c)
 {
-    content begins = skip_blanks(file);
-    return begins.length > 0 && *begins.bytes == ':';
+    size_t at = 0;
+    while (at < c.length && c.bytes[at] != '\n' && c.bytes[at] != '\r')
+        at++;
+    bool both = at + 1 < c.length && c.bytes[at] == '\r' && c.bytes[at + 1] == '\n';
+    return at + (at < c.length) + both;
 }
 
 static content take_line(hex_text *t)
 {
-    content line = t->left;
-    uint8_t *end = memchr(line.bytes, '\n', line.length);
-    if (end)
-        line.length = (size_t)(end - line.bytes) + 1;
+    content line = {t->left.bytes, line_length(t->left)};
     t->left = (content){line.bytes + line.length, t->left.length - line.length};
     t->line++;
     return line;
@@ -89,6 +90,44 @@ static size_t count_digits(const uint8_t *digits, size_t length)
     while (count < length && value_of(digits[count]) != NO_DIGIT)
         count++;
     return count;
+}
+
+/* Whether a line begins as records do: a colon, and the digits of the shortest of them. */
+static bool begins_record(content line)
+{
+    enum { DIGITS = 2 * AROUND_DATA };
+    return line.length > DIGITS && *line.bytes == ':' && count_digits(line.bytes + 1, DIGITS) == DIGITS;
+}
+
+/* Text has no control characters. */
+static bool is_text(content file)
+{
+    size_t at = 0;
+    while (at < file.length && (is_blank(file.bytes[at]) || (file.bytes[at] >= ' ' && file.bytes[at] != 0x7F)))
+        at++;
+    return at == file.length;
+}
+
+static bool has_record(content file)
+{
+    hex_text t = {.left = file};
+    content line = next_line(&t);
+    while (line.length > 0 && !begins_record(line))
+        line = next_line(&t);
+    return line.length > 0;
+}
+
+hex_text hex_begin(const char *path, content file)
+{
+    static const uint8_t mark[] = {0xEF, 0xBB, 0xBF};
+    size_t skipped = file.length >= sizeof mark && memcmp(file.bytes, mark, sizeof mark) == 0 ? sizeof mark : 0;
+    return (hex_text){.path = path, .left = {file.bytes + skipped, file.length - skipped}};
+}
+
+bool is_hex_text(content file)
+{
+    content begins = skip_blanks(hex_begin(NULL, file).left);
+    return (begins.length > 0 && *begins.bytes == ':') || (is_text(file) && has_record(file));
 }
 
 /* Whether the line has the characters of a record, as many as it says; says so if not. */

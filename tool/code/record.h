@@ -22,8 +22,12 @@ typedef struct {
     uint8_t data[MOST_DATA];
 } hex_record;
 
-/* Whether a file is Intel HEX text: what it begins with, white space aside, begins a record. */
+/* Whether a file is Intel HEX text: its first character, white space aside, begins a record; or it is a text that has a
+   line which does. */
 bool is_hex_text(content file);
+
+/* The text of a file, before its first line; a mark that it is UTF-8 is passed over. */
+hex_text hex_begin(const char *path, content file);
 
 /* Reads the next record, which is there: nothing but white space stands behind the end record, and no text ends without
    one. Gives DONE, or the exit code after it has said what is wrong. */

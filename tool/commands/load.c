@@ -87,7 +87,8 @@ static void tell_running(event_log *l)
 
 int run_load(int count, char **words)
 {
-    static loading l = {.seconds = USUAL_SECONDS, .log = {.fd = -1, .visit = {.baud = USUAL_BAUD}}};
+    static loading l = {.seconds = USUAL_SECONDS,
+                        .log = {.fd = -1, .outlet = {.later = true}, .visit = {.baud = USUAL_BAUD}}};
     bool raw = false;
     if (!read_load_options(count, words, &l, &raw))
         return MISUSED;

@@ -151,10 +151,8 @@ static void announce(monitor *m, const char *what)
 static int prepare(monitor *m, const play_options *o)
 {
     const file_use uses[] = {
-        {"--flash", o->flash, true},
-        {"--log", m->log.path, true},
-        {"--save-ram", o->save_ram, true},
-        {"--port", o->port, false},
+        {"--flash", o->flash, true}, {"--log", m->log.path, true}, {"--save-ram", o->save_ram, true},
+        {"--port", o->port, false},  {"--link", o->link, true},
     };
     if (!are_separate(uses, sizeof uses / sizeof *uses))
         return MISUSED;

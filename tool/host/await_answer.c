@@ -6,9 +6,10 @@
 
 #include <limits.h>
 
-/* In milliseconds: a greeting that comes so soon after the header may have been sent before the chip had it, and the
-   answer is then on its way. */
-enum { IN_FLIGHT = 30 };
+/* In milliseconds after the header has left. A greeting that comes within IN_FLIGHT may have been sent before the chip
+   had the header, and the answer is then on its way; if neither that nor another greeting has come after LONGER, the
+   header was lost all the same. */
+enum { IN_FLIGHT = 150, LONGER = 300 };
 
 #define NEVER LLONG_MAX
 
@@ -16,7 +17,7 @@ typedef struct {
     size_t header;   /* its length */
     long long end;   /* when waiting is over, however often the chip greets */
     long long again; /* when the header goes out again */
-    bool nonsense;   /* bytes came after it that are neither answer nor greeting */
+    size_t nonsense; /* bytes that are neither answer nor greeting */
 } answering;
 
 static long long earlier(long long a, long long b)
@@ -24,9 +25,11 @@ static long long earlier(long long a, long long b)
     return a < b ? a : b;
 }
 
-static long long later(long long a, long long b)
+/* When the header goes out again after a greeting that comes now. */
+static long long time_again(const loading *l)
 {
-    return a > b ? a : b;
+    long long now = milliseconds_now(), left = l->pace.left;
+    return now < left + IN_FLIGHT ? left + LONGER : now + l->heard.settles;
 }
 
 /* A byte that is not the answer that is wanted. */
@@ -37,11 +40,11 @@ static int judge_byte(loading *l, answering *a, uint8_t byte)
         return end_header_refused();
     if (heard_uartboot(&l->heard))
         return end_uartboot(l);
-    if (byte != UND_LINE_GREETING) {
-        a->nonsense = true;
+    if (byte == UND_LINE_GREETING) {
+        a->again = earlier(a->again, time_again(l));
+    } else {
+        a->nonsense++;
         a->again = NEVER;
-    } else if (a->again == NEVER) {
-        a->again = later(milliseconds_now() + l->heard.settles, l->pace.left + IN_FLIGHT);
     }
     return DONE;
 }
@@ -51,18 +54,18 @@ static int judge_time(loading *l, answering *a)
 {
     long long now = milliseconds_now();
     if (now >= a->end)
-        return a->nonsense ? end_header_nonsense(l) : end_unanswered(l);
+        return a->nonsense ? end_header_nonsense(l, a->nonsense) : end_unanswered(l);
     if (now < a->again)
         return DONE;
-    log_note(&l->log, "header-again", NULL, "the chip greets again: the header did not reach it, and is sent again");
+    log_note(&l->log, "header-again", NULL, "the chip greets again and does not answer: the header is sent again");
     a->again = NEVER;
-    a->nonsense = false;
     return talk_header(l, a->header);
 }
 
 int await_answer(loading *l, uint8_t wanted)
 {
     answering a = {.header = l->sent, .again = NEVER};
+    heard_forget(&l->heard);
     a.end = milliseconds_now() + loading_patience(l) + pace_arrival(&l->pace);
     for (int code = DONE;;) {
         bool came = false;

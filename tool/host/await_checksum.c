@@ -4,8 +4,9 @@
 #include "endings.h"
 #include "talk.h"
 
-/* In milliseconds: how often it is looked whether bytes still leave. */
-enum { LOOK = 200 };
+/* In milliseconds: how often it is looked whether bytes still leave; and how soon a chip that was reset greets again.
+ */
+enum { LOOK = 200, GREETS = 250 };
 
 /* The chip starts again after this. */
 static void refuse_checksum(loading *l)
@@ -16,11 +17,14 @@ static void refuse_checksum(loading *l)
     line_drain(&l->line);
 }
 
+/* A chip that waits to be told to start sends nothing behind its checksum; one that was reset greets again and again,
+   and a greeting may look like the checksum. */
 static int judge(loading *l, uint8_t wanted, uint8_t got)
 {
     bool more = false;
     uint8_t byte = got;
-    int code = got == wanted ? talk_hear(l, milliseconds_now() + l->heard.settles, &byte, &more) : DONE;
+    int quiet = wanted == UND_LINE_GREETING ? GREETS : l->heard.settles;
+    int code = got == wanted ? talk_hear(l, milliseconds_now() + quiet, &byte, &more) : DONE;
     if (code != DONE || (got == wanted && !more))
         return code;
     log_event(

@@ -49,8 +49,9 @@ static int end_noise(const loading *l, const char *where)
 
 static int end_stopped(loading *l)
 {
-    return end_with(STOPPED, reset_first, "stopped by the user: %zu of %zu bytes had gone to the monitor, no code runs",
-                    drop_rest(l), all_of(l));
+    size_t gone = drop_rest(l);
+    return end_with(STOPPED, gone ? reset_first : "load again; if the monitor greets no more, reset it first",
+                    "stopped by the user: %zu of %zu bytes had gone to the monitor, no code runs", gone, all_of(l));
 }
 
 int end_by_event(loading *l, line_event happened)
@@ -87,17 +88,19 @@ int end_unanswered(const loading *l)
 
 int end_header_refused(void)
 {
-    return refuse_unnumbered(
-        "load a smaller code, or see whether the chip is of the other kind; reset it first",
-        "refused: the chip has answered the header with %02X: it takes no code of this length, or the "
-        "header did not reach it whole",
-        UND_LINE_NAK);
+    return refuse_unnumbered("load again; if it stays so, load a smaller code, or see whether the chip is of the other "
+                             "kind; reset it first",
+                             "refused: the chip has answered the header with %02X: it takes no code of this length, or "
+                             "the header did not reach it whole",
+                             UND_LINE_NAK);
 }
 
-int end_header_nonsense(const loading *l)
+int end_header_nonsense(const loading *l, size_t count)
 {
-    if (l->heard.count > 1)
+    if (count > 1)
         return end_noise(l, " after the header, none an answer");
+    if (l->heard.count > 1)
+        return end_unanswered(l);
     return refuse_unnumbered(check_line, "refused: the chip has answered the header with %02X", l->heard.first[0]);
 }
 
@@ -125,8 +128,8 @@ int end_without_checksum(loading *l)
 int end_wrong_checksum(uint8_t wanted, uint8_t got)
 {
     return refuse_unnumbered(load_again,
-                             "refused: the checksum differs, the chip has %02X and the code %02X; it was not started",
-                             got, wanted);
+                             "refused: the checksum differs, the chip has %02X and the code %02X; it was not started%s",
+                             got, wanted, got == UND_LINE_GREETING ? "; a chip that was reset greets so" : "");
 }
 
 int end_behind_checksum(uint8_t byte)

@@ -13,10 +13,10 @@ int end_ungreeted(const loading *l);
 /* uartboot has greeted. */
 int end_uartboot(const loading *l);
 
-/* The header was not answered; or with NAK; or with bytes that mean nothing. */
+/* The header was not answered; or with NAK; or with so many bytes that mean nothing, and perhaps greetings. */
 int end_unanswered(const loading *l);
 int end_header_refused(void);
-int end_header_nonsense(const loading *l);
+int end_header_nonsense(const loading *l, size_t count);
 
 /* The line takes no more bytes; the chip has sent a byte while the code was on its way; no checksum came; or another
    than the right one; or a byte behind it. */

@@ -4,6 +4,10 @@
 
 #include <string.h>
 
+/* In milliseconds: a boot ROM greets so soon, if uartboot's greeting is one that the monitor sent before it was reset.
+ */
+enum { GREETS = 300 };
+
 void heard_begin(heard *h, int settles)
 {
     *h = (heard){.settles = settles};
@@ -32,7 +36,7 @@ void hear(heard *h, uint8_t byte)
     h->last[MOST_GREETING - 1] = byte;
     h->met_uartboot = h->met_uartboot || heard_uartboot(h);
     if (!again)
-        h->settled = milliseconds_now() + h->settles;
+        h->settled = milliseconds_now() + (heard_uartboot(h) ? GREETS : h->settles);
 }
 
 void heard_forget(heard *h)

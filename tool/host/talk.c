@@ -48,7 +48,6 @@ static int give_all(loading *l, size_t end)
 
 int talk_header(loading *l, size_t length)
 {
-    heard_forget(&l->heard);
     l->headers++;
     l->sent = 0;
     return give_all(l, length);

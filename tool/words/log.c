@@ -25,7 +25,7 @@ bool log_open(event_log *l)
     return l->fd >= 0;
 }
 
-void log_close(event_log *l)
+static void close_file(event_log *l)
 {
     if (l->fd >= 0 && close(l->fd) != 0)
         l->failed = true;
@@ -107,6 +107,13 @@ static void tell_failure(event_log *l, const char *where)
     l->failed = l->failed || !signals_stop();
 }
 
+void log_close(event_log *l)
+{
+    if (!outlet_end(&l->outlet))
+        tell_failure(l, "standard output");
+    close_file(l);
+}
+
 void log_event(event_log *l, const event *e)
 {
     text t = {0};
@@ -114,13 +121,13 @@ void log_event(event_log *l, const event *e)
         add_for_machines(&t, e);
     else
         add_for_people(&t, e);
-    if (!l->quiet && (fflush(stdout) != 0 || !write_until_stopped(STDOUT_FILENO, t.chars, t.length))) {
+    if (!l->quiet && (fflush(stdout) != 0 || !outlet_write(&l->outlet, t.chars, t.length))) {
         l->quiet = true;
         tell_failure(l, "standard output");
     }
     if (l->fd >= 0 && !write_until_stopped(l->fd, t.chars, t.length)) {
         tell_failure(l, l->path);
-        log_close(l);
+        close_file(l);
     }
     text_free(&t);
 }

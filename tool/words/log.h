@@ -2,6 +2,7 @@
 #ifndef LOG_H
 #define LOG_H
 
+#include "outlet.h"
 #include "say.h"
 #include "visit.h"
 
@@ -29,6 +30,7 @@ typedef struct {
     bool failed; /* a line could not be written; said once */
     visit visit; /* that it tells of */
     bool begun;  /* the first event was told */
+    outlet outlet;
 } event_log;
 
 /* Opens the log's file to add to it, if it has one. On failure errno says why. */
@@ -37,6 +39,8 @@ void log_event(event_log *l, const event *e);
 
 /* An event without bytes; `path` may be NULL. */
 void log_note(event_log *l, const char *name, const char *path, const char *format, ...) LIKE_PRINTF(4, 5);
+
+/* Writes what is left, and closes the log. */
 void log_close(event_log *l);
 
 /* The visit begins: endings that the program says from now on become events too, each the last of the visit. */
