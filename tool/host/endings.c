@@ -125,15 +125,22 @@ int end_without_checksum(loading *l)
                     wait_of(l));
 }
 
+/* What a byte in the wrong place may mean. */
+static const char *hint_at(uint8_t byte)
+{
+    return byte == UND_LINE_GREETING ? "; a chip that was reset greets so" : "";
+}
+
 int end_wrong_checksum(uint8_t wanted, uint8_t got)
 {
     return refuse_unnumbered(load_again,
                              "refused: the checksum differs, the chip has %02X and the code %02X; it was not started%s",
-                             got, wanted, got == UND_LINE_GREETING ? "; a chip that was reset greets so" : "");
+                             got, wanted, hint_at(got));
 }
 
 int end_behind_checksum(uint8_t byte)
 {
     return refuse_unnumbered(load_again,
-                             "refused: the chip has sent %02X behind the checksum; the code was not started", byte);
+                             "refused: the chip has sent %02X behind the checksum; the code was not started%s", byte,
+                             hint_at(byte));
 }
