@@ -1,7 +1,7 @@
 #include "options.h"
 
-#include "line.h"
 #include "say.h"
+#include "speeds.h"
 #include "undalisho.h"
 
 #include <errno.h>
@@ -136,7 +136,7 @@ int read_options(int count, char **words, const option *options, int least, int 
 bool is_baud(unsigned long baud)
 {
     char known[128];
-    if (line_has_baud(baud, known))
+    if (has_speed(baud, known))
         return true;
     misuse("--baud is one of%s, not %lu", known, baud);
     return false;

@@ -1,9 +1,10 @@
-/* The speeds beyond 38400 are not POSIX's, nor is what waits to be sent; where the system has them, they are used. */
+/* What waits to be sent, and the terminal's exclusive mode, are not POSIX's. */
 #define _DEFAULT_SOURCE
 #include "line.h"
 
 #include "memory.h"
 #include "signals.h"
+#include "speeds.h"
 
 #include <errno.h>
 #include <fcntl.h>
@@ -19,55 +20,10 @@
    adapters, which deliver in packets, may hand on bytes that belong together. */
 enum { HOST_READS = 2000, STEP = 10, PACKETS = 5 };
 
-typedef struct {
-    unsigned long baud;
-    speed_t speed;
-} speed_row;
-
-static const speed_row speeds[] = {
-    {1200, B1200},       {2400, B2400}, {4800, B4800}, {9600, B9600}, {19200, B19200}, {38400, B38400},
-#ifdef B57600
-    {57600, B57600},
-#endif
-#ifdef B115200
-    {115200, B115200},
-#endif
-#ifdef B230400
-    {230400, B230400},
-#endif
-#ifdef B460800
-    {460800, B460800},
-#endif
-#ifdef B921600
-    {921600, B921600},
-#endif
-#ifdef B1000000
-    {1000000, B1000000},
-#endif
-};
-
-static const speed_row *find_speed(unsigned long baud)
-{
-    for (size_t i = 0; i < sizeof speeds / sizeof *speeds; i++)
-        if (speeds[i].baud == baud)
-            return &speeds[i];
-    return NULL;
-}
-
-bool line_has_baud(unsigned long baud, char known[128])
-{
-    size_t at = 0;
-    known[0] = 0;
-    for (size_t i = 0; i < sizeof speeds / sizeof *speeds && at < 100; i++)
-        at += (size_t)snprintf(known + at, 128 - at, " %lu", speeds[i].baud);
-    return find_speed(baud) != NULL;
-}
-
 /* Bytes as they come, one by one, with no echo and no meaning; 8-N-1; the modem lines are not looked at. */
 static bool make_raw(int fd, unsigned long baud)
 {
     struct termios t;
-    const speed_row *row = find_speed(baud);
     if (tcgetattr(fd, &t) != 0)
         return false;
     t.c_iflag = IGNBRK;
@@ -76,9 +32,7 @@ static bool make_raw(int fd, unsigned long baud)
     t.c_cflag = CS8 | CREAD | CLOCAL;
     t.c_cc[VMIN] = 1;
     t.c_cc[VTIME] = 0;
-    if (row && (cfsetispeed(&t, row->speed) != 0 || cfsetospeed(&t, row->speed) != 0))
-        return false;
-    return tcsetattr(fd, TCSANOW, &t) == 0;
+    return set_speed(&t, baud) && tcsetattr(fd, TCSANOW, &t) == 0;
 }
 
 static bool give_up(line *l)

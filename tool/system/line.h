@@ -27,9 +27,6 @@ typedef enum {
     LINE_SIGNALLED /* a signal has come */
 } line_event;
 
-/* Whether a port can have this speed; if not, `known` (room for 128) becomes a list of those that it can have. */
-bool line_has_baud(unsigned long baud, char known[128]);
-
 /* Makes a pseudo-terminal. On failure errno says why. */
 bool line_make(line *l);
 
