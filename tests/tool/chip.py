@@ -2,6 +2,7 @@
 import os
 import pty
 import subprocess
+import termios
 import time
 import tty
 
@@ -29,16 +30,16 @@ class ChipCase(bench.Case):
         self.process = subprocess.Popen([bench.PROGRAM, 'load', '--kind', kind, '--port', self.port, *words, path],
                                         stdout=subprocess.PIPE, stderr=subprocess.PIPE, stdin=subprocess.DEVNULL, **options)
         self.addCleanup(self.stop)
-        bench.wait_until(self.has_port, 'load opens its port')
+        bench.wait_until(lambda: self.process.poll() is not None or self.has_port(), 'load opens its port')
 
     def has_port(self):
+        """Whether load has opened the port, and made its settings."""
         folder = f'/proc/{self.process.pid}/fd'
-        if self.process.poll() is not None:
-            return True
         try:
-            return any(os.readlink(os.path.join(folder, fd)) == self.port for fd in os.listdir(folder))
+            is_open = any(os.readlink(os.path.join(folder, fd)) == self.port for fd in os.listdir(folder))
         except OSError:  # one was closed while it was looked at
             return False
+        return is_open and termios.tcgetattr(self.theirs)[0] == termios.IGNBRK
 
     def stop(self):
         self.process.kill()

@@ -47,11 +47,6 @@ class PortCase(ChipCase):
         fcntl.flock(self.theirs, fcntl.LOCK_EX | fcntl.LOCK_NB)
         fcntl.flock(self.theirs, fcntl.LOCK_UN)
 
-    def start_alone(self, *words):
-        """Load has the port for itself."""
-        self.start(*words)
-        bench.wait_until(self.is_exclusive, 'load has the port')
-
     def loads(self):
         self.take_header()
         self.take_code()
@@ -60,7 +55,7 @@ class PortCase(ChipCase):
 
 class Busy(PortCase):
     def test_another_load(self):
-        self.start_alone()
+        self.start()
         self.is_busy()
         self.assertTrue(self.is_exclusive())
         with open(self.lock_file) as f:
@@ -77,7 +72,7 @@ class Busy(PortCase):
 
     def test_by_another_name(self):
         os.symlink(self.port, self.path('monitor'))
-        self.start_alone()
+        self.start()
         self.port = self.path('monitor')
         self.is_busy()
 
@@ -115,7 +110,7 @@ class Busy(PortCase):
 
     def test_killed(self):
         """What a program that was killed leaves is in nobody's way."""
-        self.start_alone()
+        self.start()
         self.stop()
         self.start()
         self.loads()
@@ -171,7 +166,7 @@ class Settings(PortCase):
     def test_after_a_signal(self):
         for number in (signal.SIGINT, signal.SIGTERM, signal.SIGHUP, signal.SIGQUIT, signal.SIGUSR1, signal.SIGUSR2):
             with self.subTest(signal=number.name):
-                self.start_alone()
+                self.start()
                 self.process.send_signal(number)
                 self.ends(bench.STOPPED)
                 self.are_back()
