@@ -4,9 +4,8 @@
 #include "endings.h"
 #include "talk.h"
 
-/* In milliseconds: how often it is looked whether bytes still leave; and how soon a chip that was reset greets again.
- */
-enum { LOOK = 200, GREETS = 250 };
+/* In milliseconds: how often it is looked whether bytes still leave. */
+enum { LOOK = 200 };
 
 /* The chip starts again after this. */
 static void refuse_checksum(loading *l)
@@ -23,7 +22,7 @@ static int judge(loading *l, uint8_t wanted, uint8_t got)
 {
     bool more = false;
     uint8_t byte = got;
-    int quiet = wanted == UND_LINE_GREETING ? GREETS : l->heard.settles;
+    int quiet = wanted == UND_LINE_GREETING ? GREETS_WITHIN : l->heard.settles;
     int code = got == wanted ? talk_hear(l, milliseconds_now() + quiet, &byte, &more) : DONE;
     if (code != DONE || (got == wanted && !more))
         return code;

@@ -4,10 +4,6 @@
 
 #include <string.h>
 
-/* In milliseconds: a boot ROM greets so soon, if uartboot's greeting is one that the monitor sent before it was reset.
- */
-enum { GREETS = 300 };
-
 void heard_begin(heard *h, int settles)
 {
     *h = (heard){.settles = settles};
@@ -25,7 +21,8 @@ bool heard_greeting(const heard *h)
     return h->last[MOST_GREETING - 1] == UND_LINE_GREETING;
 }
 
-/* A chip that greets again and again is not waited for to be quiet. */
+/* A chip that greets again and again is not waited for to be quiet. uartboot's greeting may be older than a reset, and
+   the boot ROM's may follow. */
 void hear(heard *h, uint8_t byte)
 {
     bool again = heard_greeting(h) && byte == UND_LINE_GREETING;
@@ -36,7 +33,7 @@ void hear(heard *h, uint8_t byte)
     h->last[MOST_GREETING - 1] = byte;
     h->met_uartboot = h->met_uartboot || heard_uartboot(h);
     if (!again)
-        h->settled = milliseconds_now() + (heard_uartboot(h) ? GREETS : h->settles);
+        h->settled = milliseconds_now() + (heard_uartboot(h) ? GREETS_WITHIN : h->settles);
 }
 
 void heard_forget(heard *h)

@@ -7,6 +7,9 @@
 
 enum { HEARD_SHOWN = 8 };
 
+/* In milliseconds: so soon a chip greets that was reset, or greets again. */
+enum { GREETS_WITHIN = 300 };
+
 typedef struct {
     size_t count;
     uint8_t first[HEARD_SHOWN];
