@@ -14,6 +14,9 @@ CODE = model.noise(3000)
 FRAME = model.frame('p', CODE)
 HEADER = FRAME[:3]
 
+# What an application says.
+CHATTER = b'cell 12: 3.71 V\r\n'
+
 
 class ChipCase(bench.Case):
     def setUp(self):

@@ -1,5 +1,6 @@
 """Intel HEX text as a code file: what is taken, and where it goes."""
 import random
+import subprocess
 
 import bench
 import hexfile
@@ -102,6 +103,13 @@ class Gaps(CodeCase):
     def test_as_many_as_can_be(self):
         lines = [line for at in range(0, 2000, 2) for line in hexfile.records(at, b'x')]
         self.check_code(hexfile.text(lines), b'x\xFF' * 999 + b'x', [(at, at) for at in range(1, 1999, 2)])
+
+    def test_where_the_frame_goes_to_standard_output(self):
+        """They are named on the other one."""
+        path = self.file('file', hexfile.text([record(DATA, 0, b'a'), record(DATA, 2, b'c')]))
+        done = subprocess.run([bench.PROGRAM, 'frame', '--kind', 'p', path, '-o', '/dev/stdout'], capture_output=True, check=True)
+        self.assertEqual(done.stdout, model.frame('p', b'a\xFFc'))
+        self.assertEqual(done.stderr, b'gap of 1 byte from 0x00000001 to 0x00000001, filled with FF\n')
 
     def test_loaded(self):
         player = Player(self, 'rom', '--kind', 'p', '--save-ram', 'ram')

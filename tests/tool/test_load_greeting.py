@@ -3,9 +3,7 @@ import time
 
 import bench
 import model
-from chip import HEADER, ChipCase
-
-TEXT = b'cell 12: 3.71 V\r\n'
+from chip import CHATTER, HEADER, ChipCase
 
 
 class Noise(ChipCase):
@@ -49,9 +47,9 @@ class Noise(ChipCase):
         """An application that runs: a greeting's byte amid its bytes is none."""
         self.start('--wait', '1', '--json')
         while self.process.poll() is None:
-            self.chip.write(b'\2' + TEXT)
+            self.chip.write(b'\2' + CHATTER)
             time.sleep(0.03)
-        said = self.ends_as('noise', bench.NOISE, (b'\2' + TEXT)[:8].hex(' ').upper())[-1]
+        said = self.ends_as('noise', bench.NOISE, (b'\2' + CHATTER)[:8].hex(' ').upper())[-1]
         self.assertIn('application', said['next'])
         self.chip.expect_nothing(0)
 

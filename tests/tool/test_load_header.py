@@ -2,9 +2,7 @@
 import time
 
 import bench
-from chip import HEADER, ChipCase
-
-TEXT = b'cell 12: 3.71 V\r\n'
+from chip import CHATTER, HEADER, ChipCase
 
 
 class LostHeader(ChipCase):
@@ -68,9 +66,9 @@ class Chatter(ChipCase):
         self.start('--wait', '1', '--json')
         self.take_header()
         while self.process.poll() is None:
-            self.chip.write(TEXT)
+            self.chip.write(CHATTER)
             time.sleep(0.03)
-        self.ends_as('noise', bench.NOISE, 'after the header, none an answer: ' + TEXT[:8].hex(' ').upper())
+        self.ends_as('noise', bench.NOISE, 'after the header, none an answer: ' + CHATTER[:8].hex(' ').upper())
 
     def test_with_greetings_in_it(self):
         """The end is the same, however fast it comes."""

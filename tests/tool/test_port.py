@@ -99,9 +99,10 @@ class Busy(PortCase):
                     self.assertEqual(f.read(), content)
 
     def test_lock_file_of_a_program_that_is_gone(self):
+        """Also where the bytes of its number begin with a digit; and where the file names none."""
         gone = subprocess.Popen(['true'])
         gone.wait()
-        for content in [b'%10d\n' % gone.pid, struct.pack('i', gone.pid), b'', b'nonsense\n', b'-1\n', b'9' * 18]:
+        for content in [b'%10d\n' % gone.pid, struct.pack('i', gone.pid), b'1\0\0\1', b'', b'nonsense\n', b'-1\n', b'9' * 18]:
             with self.subTest(content=content):
                 self.write_lock_file(content)
                 self.start()

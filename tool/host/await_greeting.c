@@ -34,7 +34,8 @@ int await_greeting(loading *l)
     for (bool told = false;;) {
         bool came, greeted = heard_greeting(&l->heard) || heard_uartboot(&l->heard);
         uint8_t byte;
-        int code = talk_hear(l, greeted ? l->heard.settled : told || soon > end ? end : soon, &byte, &came);
+        long long look = told || soon > end ? end : soon;
+        int code = talk_hear(l, greeted ? l->heard.settled : look, &byte, &came);
         if (code != DONE)
             return code;
         long long now = milliseconds_now();

@@ -1,14 +1,12 @@
 #include "pace.h"
 
 #include "clock.h"
-
-/* A start bit, eight of data, a stop bit. */
-enum { BITS = 10 };
+#include "line.h"
 
 /* How long bytes need, rounded up. */
 static long long needs(const pace *p, size_t count)
 {
-    unsigned long long bits = (unsigned long long)count * BITS * 1000;
+    unsigned long long bits = (unsigned long long)count * BITS_OF_BYTE * 1000;
     return (long long)((bits + p->baud - 1) / p->baud);
 }
 

@@ -141,7 +141,7 @@ line_event line_write(line *l, const uint8_t *bytes, size_t length, int millisec
 
 int line_settles(const line *l)
 {
-    int two_bytes = (int)((20 * 1000 + l->baud - 1) / l->baud);
+    int two_bytes = (int)((2 * BITS_OF_BYTE * 1000 + l->baud - 1) / l->baud);
     return two_bytes > PACKETS ? two_bytes : PACKETS;
 }
 

@@ -8,6 +8,9 @@
 #include <stddef.h>
 #include <stdint.h>
 
+/* A byte on the wire: a start bit, eight of data, a stop bit. */
+enum { BITS_OF_BYTE = 10 };
+
 /* The speed of a port where none is given: that of the DA1453x's boot ROM, and of uartboot. */
 enum { USUAL_BAUD = 115200 };
 

@@ -27,13 +27,14 @@ char *lock_file_name(const char *path)
     return t.chars;
 }
 
-/* The process that a lock file names, as text or as the bytes of its number. */
+/* The process that a lock file names, as text or as the bytes of its number; these may look like digits and zeros. */
 static long owner_in(const char *words, size_t count)
 {
     int number;
     char *end;
     long owner = strtol(words, &end, 10);
-    if (count != sizeof number || (end != words && (*end == 0 || *end == '\n')))
+    size_t text_length = (size_t)(end - words) + (*end == '\n');
+    if (count != sizeof number || (end != words && text_length == count))
         return owner;
     memcpy(&number, words, sizeof number);
     return number;

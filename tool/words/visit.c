@@ -23,7 +23,7 @@ void visit_move(visit *v, size_t count)
 /* The date here with the zone, as "2026-03-29T10:15:02+02:00". */
 static void add_date(text *t)
 {
-    char date[32], zone[8];
+    char date[32], zone[8] = "+0000";
     time_t now = time(NULL);
     struct tm parts;
     localtime_r(&now, &parts);
