@@ -17,10 +17,9 @@ use Rattle.image.specs.Valid.{isValid, imageAt}
 use Rattle.slot.specs.Slot.{productInside, productMarked, selectOf}
 use Rattle.headers.specs.ImageHeader.{imageHeaderOf}
 use Rattle.machine.specs.Uncut.{drain, feed, uncut}
-use Rattle.rom_flow.specs.Ask.{xorOf}
-use Rattle.rom_flow.specs.Receiver.{took}
+use Rattle.rom_flow.specs.Flow.{xorOf}
 use Rattle.figures.specs.ProvedSet.{AllHold, provedSet}
 
 pub proved-set : AllHold provedSet
-unfolding numberAt liesIn isFlashLength isValid imageAt productInside productMarked selectOf imageHeaderOf erased judged executed opcodeOf leaving moved placed afterBit afterBits afterByte after crcOf isNumber wellFormed rankOf comparedFields orderOf drain feed uncut xorOf took
+unfolding numberAt liesIn isFlashLength isValid imageAt productInside productMarked selectOf imageHeaderOf erased judged executed opcodeOf leaving moved placed afterBit afterBits afterByte after crcOf isNumber wellFormed rankOf comparedFields orderOf drain feed uncut xorOf
 proved-set = (refl, (refl, (refl, (refl, (refl, (refl, (refl, (refl, (refl, (refl, (refl, (refl, (refl, (refl, (refl, (refl, tt))))))))))))))))

@@ -17,7 +17,7 @@ use Rattle.rom_flow.specs.declared.kind.Kind.the-variants.{P, E}
 use Rattle.rom_flow.specs.declared.step.Step.the-variants.{TakeCode, Running}
 use Rattle.wire.specs.Unit.{firstAddress}
 use Rattle.rom_flow.specs.Receiver.{fresh, receiver}
-use Rattle.rom.specs.Record.{written}
+use Rattle.rom_record.specs.Record.{written}
 use Rattle.memory.specs.Flash.{burnt, blank}
 use Rattle.command.specs.declared.opcode.Opcode.the-variants.{Erase}
 use Rattle.command_execution.specs.declared.Ending.the-variants.{Silent}

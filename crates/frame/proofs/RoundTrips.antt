@@ -14,8 +14,7 @@ use borrow.Author.Tests.{leb-true, eqb-false, lt-ltb, le-ltb, le-leb, ne-eqb}
 use borrow.Table.Steps.{cases}
 use Rattle.memory.specs.Store.{laid}
 use Rattle.memory.proofs.Stores.{laid-next}
-use Rattle.machine.specs.Machine.{runs}
-use Rattle.machine.specs.Machine as machine
+use Rattle.machine.specs.Does.{Does, takes, sends, runs, needOf, tookOf, sentOf, byteOf}
 use Rattle.machine.specs.Outcome.{acted}
 use Rattle.machine.specs.Uncut.{uncut}
 use Rattle.machine.proofs.Actions.{uncut-act, uncut-run}
@@ -24,9 +23,9 @@ use Rattle.rom_flow.specs.declared.kind.Kind.the-variants.{P, E}
 use Rattle.rom_flow.specs.declared.step.Step.the-variants.{SendAck, TakeCode, SendXor, Running}
 use Rattle.wire.specs.Line.{stx, soh, ack}
 use Rattle.wire.specs.Unit.{firstAddress}
-use Rattle.rom_flow.specs.Flow.{codeStep}
-use Rattle.rom_flow.specs.Ask.{xorOf}
-use Rattle.rom_flow.specs.Receiver.{State, fresh, need, took, byte, sent, receiver, state}
+use Rattle.rom_flow.specs.State.{State, state}
+use Rattle.rom_flow.specs.Flow.{xorOf, codeStep, does}
+use Rattle.rom_flow.specs.Receiver.{fresh, receiver}
 use Rattle.rom_flow.proofs.Laws.{lawful-any}
 use Rattle.frame.specs.Frame.{longest, pair, lengthField, headerOf, frameOf, emptyCode, longCode, shortOutput, written, framedOf}
 use Rattle.frame.specs.RoundTrip.{RoundTrip}
@@ -36,18 +35,25 @@ record Gives (s : State) (stream said : List ℕ) (t : State) : Type 0 where
   whole : uncut receiver s stream ≡ acted said (length stream) t
 
 -- code runs and the stream is at its end
-gives-end : (s : State) → need s ≡ runs → Gives s [] [] s
-gives-end s e = record { whole = uncut-run receiver lawful-any s [] e }
+gives-end : (s : State) → does s ≡ runs → Gives s [] [] s
+gives-end s e = record { whole = uncut-run receiver lawful-any s [] (ap (λ (d : Does ℕ State). needOf d) e) }
 
 -- one byte is taken first
-gives-take : (s : State) (b : ℕ) {stream said : List ℕ} {t : State} → need s ≡ machine.takeOne → Gives (took s b) stream said t →
+gives-take : (s : State) (b : ℕ) {next : ℕ → State} {stream said : List ℕ} {t : State} → does s ≡ takes next → Gives (next b) stream said t →
     Gives s (b ∷ stream) said t
-gives-take s b {stream} e g = record { whole = uncut-act receiver lawful-any s tt (b ∷ stream) 1 e (omega arith) ∙ rw (g .whole, one-add) }
+gives-take s b {next} {stream} e g =
+    let need = ap (λ (d : Does ℕ State). needOf d) e in
+    let after : tookOf (does s) s b ≡ next b = ap (λ (d : Does ℕ State). tookOf d s b) e in
+    record { whole = uncut-act receiver lawful-any s tt (b ∷ stream) 1 need (omega arith) ∙ rw (after, g .whole, one-add) }
 
 -- one byte is sent first
-gives-send : (s : State) {stream said : List ℕ} {t : State} → need s ≡ machine.sendOne → Gives (sent s) stream said t →
-    Gives s stream (byte s ∷ said) t
-gives-send s {stream} e g = record { whole = uncut-act receiver lawful-any s tt stream 0 e (omega arith) ∙ rw (g .whole, zero-add) }
+gives-send : (s : State) {byte : ℕ} {next : State} {stream said : List ℕ} {t : State} → does s ≡ sends byte next → Gives next stream said t →
+    Gives s stream (byte ∷ said) t
+gives-send s {byte} {next} {stream} e g =
+    let need = ap (λ (d : Does ℕ State). needOf d) e in
+    let after : sentOf (does s) s ≡ next = ap (λ (d : Does ℕ State). sentOf d s) e in
+    let says : byteOf (does s) ≡ byte = ap (λ (d : Does ℕ State). byteOf d) e in
+    record { whole = uncut-act receiver lawful-any s tt stream 0 need (omega arith) ∙ rw (after, says, g .whole, zero-add) }
 
 -- the state at the end
 abbrev ran : Kind → (code ram : List ℕ) → State
@@ -57,7 +63,6 @@ ran kind code ram = state kind (Running firstAddress) 0 (laid code ram)
 module _ (kind : Kind) (code ram : List ℕ) (fits : length code ≤ length ram) where
   -- all of the code is stored: its XOR is sent and the last byte is to come
   gives-xor : Gives (state kind (SendXor (length code)) 0 (laid code ram)) (ack ∷ []) (xorOf code ∷ []) (ran kind code ram)
-  unfolding took
   gives-xor =
       rw (take-append-seam code (drop (length code) ram))
       at (gives-send (state kind (SendXor (length code)) 0 (laid code ram)) refl (gives-take _ ack refl (gives-end (ran kind code ram) refl)))
@@ -65,7 +70,6 @@ module _ (kind : Kind) (code ram : List ℕ) (fits : length code ≤ length ram)
   -- the first bytes of the code are stored, and the rest of it is to come
   gives-code : (done rest : List ℕ) → done ++ rest ≡ code →
       Gives (state kind (codeStep (length code) (length done)) 0 (laid done ram)) (rest ++ ack ∷ []) (xorOf code ∷ []) (ran kind code ram)
-  unfolding took
   gives-code done [] e =
       let all : done ≡ code = sym (append-nil done) ∙ e in
       let last : ltb (length code) (length code) ≡ false = le-ltb (length code) (length code) (omega arith) in
@@ -92,7 +96,6 @@ module _ (ram : List ℕ) (n : ℕ) (some : 0 < n) (fits : n ≤ length ram) {st
   -- a length field of two bytes
   gives-plain : (kind : Kind) → Gives (state kind (SendAck n) 0 ram) stream said t →
       Gives (fresh kind ram) (soh ∷ pair n ++ stream) (stx ∷ said) t
-  unfolding took
   gives-plain kind g =
       let nonzero : eqb n 0 ≡ false = ne-eqb n 0 (λ e. omega arith) in
       gives-send _ refl
@@ -102,7 +105,6 @@ module _ (ram : List ℕ) (n : ℕ) (some : 0 < n) (fits : n ≤ length ram) {st
   -- an extended one
   gives-extended : 65536 ≤ n → Gives (state E (SendAck n) 0 ram) stream said t →
       Gives (fresh E ram) (soh ∷ 0 ∷ 0 ∷ pair (n - 65536) ++ stream) (stx ∷ said) t
-  unfolding took
   gives-extended h g =
       let k = n - 65536 in
       let sum : 65536 + (k % 256 + 256 * (k / 256)) ≡ n = omega (arith, pair-is k) in

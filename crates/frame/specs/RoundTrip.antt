@@ -10,7 +10,7 @@ use Rattle.rom_flow.specs.declared.kind.Kind.{Kind}
 use Rattle.rom_flow.specs.declared.step.Step.the-variants.{Running}
 use Rattle.wire.specs.Line.{stx, ack}
 use Rattle.wire.specs.Unit.{firstAddress}
-use Rattle.rom_flow.specs.Ask.{xorOf}
+use Rattle.rom_flow.specs.Flow.{xorOf}
 use Rattle.rom_flow.specs.Receiver.{fresh, receiver}
 use Rattle.frame.specs.Frame.{framedOf}
 

@@ -6,7 +6,7 @@ ghost use lib.Seq.{sets};
 ghost use Rattle.memory.specs.Store.{laid};
 ghost use Rattle.frame.specs.Frame.{longest, pair, isExtended, headerOf, frameOf, refused, written, framedOf};
 use memory::store::lay;
-use rom_flow::flow::FIRST_EXTENDED;
+use rom_flow::header::FIRST_EXTENDED;
 use rom_flow::kind::Kind;
 use wire::line::ACK;
 use wire::line::SOH;

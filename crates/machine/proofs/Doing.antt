@@ -1,15 +1,17 @@
 -- Laws of a machine that is given by one table.
 -- Assumes nothing.
-use Prim.Native.Nat.{ℕ, suc}
+use Prim.Native.Nat.{ℕ, suc, _<_}
 use mathlib.Core.Path.{_≡_, refl}
 use mathlib.Core.List.{List, [], _∷_}
 use native.Mathlib.Omega.{arith}
+use lib.ListN.{length}
 use Rattle.machine.specs.Machine as machine
 use Rattle.machine.specs.Machine.{Machine}
 use Rattle.machine.specs.Does.{Does, takes, sends, runs, needOf, tookOf, sentOf, byteOf, lineOf}
 use Rattle.machine.specs.History.{Event}
-use Rattle.machine.specs.Lawful.{Kept, Lawful}
-use Rattle.machine.proofs.Lines.{Line, line-kept, line-lawful}
+use Rattle.machine.specs.Lawful.{Any, Kept, Lawful}
+use Rattle.machine.specs.SessionLaws.{OneByOne}
+use Rattle.machine.proofs.Lines.{Line, line-one, line-speaks, line-kept, line-lawful}
 use Rattle.machine.proofs.Lines as lines
 
 module _ {A S : Type 0} where
@@ -31,6 +33,12 @@ module _ {A S : Type 0} where
   leaves-weaken Good P Q events s (sends byte next) f l = f next l
   leaves-weaken Good P Q events s runs f l = tt
 
+  -- nothing is asked of what is left
+  pub leaves-any : (Good : A → Type 0) (events : List (Event A S)) (s : S) (d : Does A S) → Leaves Good (λ _ t. Any t) events s d
+  leaves-any Good events s (takes next) = λ a g. tt
+  leaves-any Good events s (sends byte next) = tt
+  leaves-any Good events s runs = tt
+
   -- a byte that is sent was counted
   abbrev pub Counted : (due : S → ℕ) → S → Does A S → Type 0
   Counted due s (takes next) = Unit {0}
@@ -41,8 +49,14 @@ module _ {A S : Type 0} where
     abbrev m : Machine A S
     m = lineOf does due
 
-    pub is-line : (s : S) → Line (needOf (does s))
+    is-line : (s : S) → Line (needOf (does s))
     is-line s = does-line (does s)
+
+    pub does-one : OneByOne m
+    does-one = line-one (λ s. needOf (does s)) (λ s a. tookOf (does s) s a) (λ s. byteOf (does s)) (λ s. sentOf (does s) s) due is-line
+
+    pub does-speaks : (s : S) → needOf (does s) ≡ machine.sendOne → 0 < length (m .says s [])
+    does-speaks = line-speaks (λ s. needOf (does s)) (λ s a. tookOf (does s) s a) (λ s. byteOf (does s)) (λ s. sentOf (does s) s) due is-line
 
     pub does-kept : (Good : A → Type 0) (P : List (Event A S) → S → Type 0) →
         ((events : List (Event A S)) (s : S) → P events s → Leaves Good P events s (does s)) → Kept m Good P

@@ -13,3 +13,6 @@ pub mod Shapes
 pub mod Doing
 pub mod Repeats
 pub mod Acknowledgements
+pub mod Bulks
+pub mod Turns
+pub mod Reaches

@@ -14,3 +14,4 @@ pub mod Loop
 pub mod Listing
 pub mod SessionLaws
 pub mod SessionClaim
+pub mod Reach

@@ -20,3 +20,13 @@ module _ {S : Type 0} (m : Machine ℕ S) where
     none : Sends s j old 0 s old
     more : {count byte : ℕ} {t : S} {reply : List ℕ} → Sends s j old count t reply → m .need t ≡ machine.sendOne → m .says t [] ≡ byte ∷ [] →
         j + count < length reply → Sends s j old (suc count) (m .after t []) (set reply (j + count) byte)
+
+  -- one or more takes
+  pub record Taken (input : List ℕ) (i : ℕ) (s : S) (count : ℕ) (t : S) : Type 0 where
+    pub some : 0 < count
+    pub takes : Takes input i s count t
+
+  -- one or more sends
+  pub record Shown (s : S) (j : ℕ) (old : List ℕ) (count : ℕ) (t : S) (reply : List ℕ) : Type 0 where
+    pub some : 0 < count
+    pub sends : Sends s j old count t reply

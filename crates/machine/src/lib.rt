@@ -1,5 +1,6 @@
 // Sessions as deterministic machines: what a caller keeps of one between calls, and what a call reports.
 ghost use mathlib.Core.Path.{_≡_};
+ghost use Prim.Native.Nat.{_+_, _≤_};
 ghost use Rattle.machine.specs.Session.{refusedReport};
 
 pub mod words;
@@ -39,4 +40,12 @@ pub fn refused(number: u32, session: Record) -> Report
         sent: 0,
         session: session,
     }
+}
+
+// So many bytes further on. That this lies within `end` shows that the sum doesn't wrap.
+pub fn advance(place: usize, count: usize, end: usize) -> usize
+    requires { ⌜ place + count ≤ end ⌝ }
+    ensures { λ r. ⌜ r ≡ place + count ⌝ }
+{
+    place + count
 }

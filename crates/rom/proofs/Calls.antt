@@ -15,10 +15,11 @@ use Rattle.machine.specs.declared.Report.{Report}
 use Rattle.machine.proofs.Answers.{refused-length, refused-record, accepted-call}
 use Rattle.rom_flow.specs.declared.kind.Kind.{Kind}
 use Rattle.rom_flow.specs.declared.step.Step.{Step}
-use Rattle.rom.specs.declared.record.Decoded.{Decoded}
-use Rattle.rom.specs.declared.record.Decoded.the-variants.{Sound, Unsound}
-use Rattle.rom_flow.specs.Receiver.{receiver, state}
-use Rattle.rom.specs.Record.{written, decodedOf}
+use Rattle.rom_record.specs.declared.Decoded.{Decoded}
+use Rattle.rom_record.specs.declared.Decoded.the-variants.{Sound, Unsound}
+use Rattle.rom_flow.specs.State.{state}
+use Rattle.rom_flow.specs.Receiver.{receiver}
+use Rattle.rom_record.specs.Record.{written, decodedOf}
 use Rattle.rom.specs.Session.{readOf, rom, answer}
 
 module _ (session : Record) (input reply ram : List ℕ) (r : Report) where

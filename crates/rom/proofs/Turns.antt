@@ -1,107 +1,72 @@
--- The turns of the receiver's loop.
+-- The turns of the receiver's loop, by what was asked.
 -- Assumes nothing.
-use Prim.Native.Nat.{ℕ, zero, suc, _+_, _-_, _<_, _≤_, min}
-use native.Mathlib.Omega.{arith}
-use native.Mathlib.Nat.{add-zero, add-suc}
-use native.Mathlib.Numerals.{add-one}
-use mathlib.Core.Path.{_≡_, refl, sym, ap, _∙_}
+use Prim.Native.Nat.{ℕ, _+_, _≤_}
+use mathlib.Core.Path.{_≡_, refl, ap}
 use mathlib.Core.List.{List}
-use lib.ListN.{length, drop, getD, set, length-drop}
-use lib.Seq.{getD-drop, paste, paste-zero, paste-suc}
-use borrow.Author.Tests.{lt-ltb}
-use Rattle.memory.specs.Copy.{Copied}
-use Rattle.machine.specs.Machine as machine
+use lib.ListN.{length}
+use Rattle.machine.specs.Does.{Does, needOf}
+use Rattle.machine.specs.Lawful.{Any}
 use Rattle.machine.specs.Loop.{Acted}
-use Rattle.machine.proofs.Loops.{Reached, reached-start, reached-take, reached-send, acted-hungry, acted-choked, acted-runs}
+use Rattle.machine.specs.Steps.{Taken, Shown}
+use Rattle.machine.proofs.Turns.{Turn}
+use Rattle.machine.proofs.Turns as turns
 use Rattle.rom_flow.specs.declared.kind.Kind.{Kind}
 use Rattle.rom_flow.specs.declared.step.Step.{Step}
-use Rattle.rom_flow.specs.declared.step.Step.the-variants as step
-use Rattle.rom_flow.specs.declared.step.Output.{Output}
-use Rattle.rom_flow.specs.declared.step.Ask.{Ask}
-use Rattle.rom_flow.specs.declared.step.Ask.the-variants.{TakeByte, TakeCode, Send, Halt}
-use Rattle.rom_flow.specs.declared.step.Progress.{Progress}
-use Rattle.rom_flow.specs.Flow as flow
-use Rattle.rom_flow.specs.Ask.{askOf, needOf, outputOf}
-use Rattle.rom_flow.specs.Receiver.{took, sent, receiver, state}
+use Rattle.rom_flow.specs.declared.step.Moved.{Moved}
+use Rattle.rom_flow.specs.declared.ask.Taking.{Taking}
+use Rattle.rom_flow.specs.declared.ask.Sending.{Sending}
+use Rattle.rom_flow.specs.declared.ask.Sending.the-variants.{Byte, Xor}
+use Rattle.rom_flow.specs.declared.ask.Ask.{Ask}
+use Rattle.rom_flow.specs.declared.ask.Ask.the-variants.{Take, Send, Halt}
+use Rattle.rom_flow.specs.State.{State, state}
+use Rattle.rom_flow.specs.Flow.{does}
+use Rattle.rom_flow.specs.Receiver.{due, receiver}
 use Rattle.rom_flow.specs.Sound.{Ready}
-use Rattle.rom_flow.proofs.Steps.{ask-inside, asks-code, InAsk}
-use Rattle.rom_flow.proofs.Laws.{lawful-any, took-sound, sent-sound, stored-length}
+use Rattle.rom_flow.specs.Ask.{stepOf, SendsSo, InRam, Asked, SentSo}
+use Rattle.rom_flow.proofs.Asks.{taking-takes, sending-sends}
+use Rattle.rom_flow.proofs.Sounds.{Held}
+use Rattle.rom_flow.proofs.Laws.{held}
 
--- a call at first, reason₀, ram₀ has come to s, last, ram, with i bytes taken and j sent
-pub record Turn (kind : Kind) (first : Step) (reason₀ : ℕ) (ram₀ input old : List ℕ) (s : Step) (last : ℕ) (ram reply : List ℕ) (i j : ℕ) : Type 0 where
-  pub reached : Reached receiver (state kind first reason₀ ram₀) input old (state kind s last ram) i j reply
-  pub same-ram : length ram ≡ length ram₀
-  pub ready : Ready kind s ram
+-- a call at `first`, reason₀, ram₀ has come to s, last, ram
+abbrev pub At : Kind → (first : Step) (reason₀ : ℕ) (ram₀ input old : List ℕ) (s : Step) (last : ℕ) (ram reply : List ℕ) (i j : ℕ) → Type 0
+At kind first reason₀ ram₀ input old s last ram reply i j =
+    Turn receiver (Held ram₀) (state kind first reason₀ ram₀) input old (state kind s last ram) reply i j
 
 module _ {kind : Kind} {first : Step} {reason₀ : ℕ} {ram₀ input old : List ℕ} where
-  pub begins : Ready kind first ram₀ → Turn kind first reason₀ ram₀ input old first reason₀ ram₀ old 0 0
-  begins h = record { reached = reached-start receiver (state kind first reason₀ ram₀) input old; same-ram = refl; ready = h }
+  pub begins : Ready kind first ram₀ → At kind first reason₀ ram₀ input old first reason₀ ram₀ old 0 0
+  begins h = turns.begins does due (held ram₀ Any) (record { ready = h; same = refl })
 
-  module _ {s : Step} {last : ℕ} {ram reply : List ℕ} {i j : ℕ} (t : Turn kind first reason₀ ram₀ input old s last ram reply i j) where
-    -- any byte taken
-    takes : needOf (askOf s) ≡ machine.takeOne → i < length input →
-        let n = took (state kind s last ram) (getD input i 0) in
-        Turn kind first reason₀ ram₀ input old (n .step) (n .reason) (n .ram) reply (i + 1) j
-    unfolding took
-    takes e h =
-        record {
-          reached = reached-take _ _ _ _ _ lawful-any (t .reached) 0 e h;
-          same-ram = stored-length (askOf s) (getD input i 0) ram ∙ t .same-ram;
-          ready = took-sound (state kind s last ram) (getD input i 0) (t .ready);
-        }
+  module _ {s : Step} {last : ℕ} {ram reply : List ℕ} {i j : ℕ} (t : At kind first reason₀ ram₀ input old s last ram reply i j) (a : Ask) (asked : Asked a s) where
+    module _ (x : Taking) (e : a ≡ Take x) where
+      step-is : s ≡ stepOf x
+      step-is = rw e at asked
 
-    module _ (a : Ask) (e : a ≡ askOf s) where
-      need : (b : Ask) → a ≡ b → needOf (askOf s) ≡ needOf b
-      need b f = ap needOf (sym e ∙ f)
+      pub ready-to-take : Ready kind (stepOf x) ram
+      ready-to-take = rw step-is at (t .keeps .ready)
 
-      -- what is asked lies in the RAM
-      pub inside : (b : Ask) → a ≡ b → InAsk b (length ram)
-      inside b f = ask-inside kind (length ram) s (t .ready .step-sound) b (sym e ∙ f)
+      pub taken : {count : ℕ} {next : State} → Taken receiver input i (state kind (stepOf x) last ram) count next → Taken receiver input i (state kind s last ram) count next
+      taken h = rw step-is h
 
-      pub took-turn : a ≡ TakeByte → i < length input → (after : Progress) → after ≡ flow.took kind (length ram₀) s last (getD input i 0) →
-          Turn kind first reason₀ ram₀ input old (after .step) (after .reason) ram reply (i + 1) j
-      unfolding took
-      took-turn f h after q = rw q (rw (t .same-ram, ← e, f) at (takes (need TakeByte f) h))
+      pub hungry : length input ≤ i → Acted receiver (state kind first reason₀ ram₀) input old i j 1 (state kind s last ram) reply
+      hungry h = turns.hungry does due (held ram₀ Any) t (rw step-is (taking-takes kind last ram x)) h
 
-      pub sent-turn : (output : Output) → a ≡ Send output → j < length reply → (b : ℕ) → b ≡ outputOf output ram → (next : Step) → next ≡ flow.sent s →
-          Turn kind first reason₀ ram₀ input old next last ram (set reply j b) i (j + 1)
-      sent-turn output f h b p next q =
-          let r = reached-send _ _ _ _ _ lawful-any (t .reached) (need (Send output) f) h in
-          let r′ = rw (← e, f, ← p, ← q) at r in
-          record { reached = r′; same-ram = t .same-ram; ready = rw q (sent-sound (state kind s last ram) (t .ready)) }
+    module _ (x : Sending) (e : a ≡ Send x) where
+      sends-so : SendsSo x s
+      sends-so = rw e at asked
 
-      pub hungry : a ≡ TakeByte → length input ≤ i → Acted receiver (state kind first reason₀ ram₀) input old i j 1 (state kind s last ram) reply
-      hungry f h = acted-hungry _ _ _ _ _ lawful-any (t .reached) (need TakeByte f) h
+      pub ready-to-send : InRam x (length ram)
+      ready-to-send = go x sends-so
+        where
+          go : (x : Sending) → SendsSo x s → InRam x (length ram)
+          go (Byte byte next) so = tt
+          go (Xor total) so = (rw so at (t .keeps .ready .step-sound)) .1
 
-      pub hungry-code : (n p : ℕ) → a ≡ TakeCode n p → length input ≤ i → Acted receiver (state kind first reason₀ ram₀) input old i j 1 (state kind s last ram) reply
-      hungry-code n p f h = acted-hungry _ _ _ _ _ lawful-any (t .reached) (need (TakeCode n p) f) h
+      pub shown : {r : Moved} {reply′ : List ℕ} → SentSo x last ram j reply r reply′ →
+          Shown receiver (state kind s last ram) j reply (r .count) (state kind (r .step) (r .reason) ram) reply′
+      shown h = h .is kind s sends-so
 
-      pub choked : (output : Output) → a ≡ Send output → length reply ≤ j → Acted receiver (state kind first reason₀ ram₀) input old i j 2 (state kind s last ram) reply
-      choked output f h = acted-choked _ _ _ _ _ lawful-any (t .reached) (need (Send output) f) h
+      pub choked : length reply ≤ j → Acted receiver (state kind first reason₀ ram₀) input old i j 2 (state kind s last ram) reply
+      choked h = turns.choked does due (held ram₀ Any) t (sending-sends kind last ram x s sends-so) h
 
-      pub halts : a ≡ Halt → Acted receiver (state kind first reason₀ ram₀) input old i j 3 (state kind s last ram) reply
-      halts f = acted-runs receiver _ input old _ i j reply (t .reached) (need Halt f)
-
-  -- code bytes taken one by one are one copy
-  code-run : (n p last : ℕ) (ram reply : List ℕ) (i j : ℕ) → p < n → n ≤ length ram →
-      Turn kind first reason₀ ram₀ input old (step.TakeCode n p) last ram reply i j → (q : ℕ) → q ≤ n - p → i + q ≤ length input →
-      Turn kind first reason₀ ram₀ input old (flow.codeStep n (p + q)) last (paste ram p (drop i input) q) reply (i + q) j
-  unfolding took
-  code-run n p last ram reply i j a b t zero h l = rw (← paste-zero ram p (drop i input), add-zero p, add-zero i, lt-ltb p n a) t
-  code-run n p last ram reply i j a b t (suc q) h l =
-      let x : p + q < n = omega arith in
-      let y : i + q < length input = omega arith in
-      let w : q < length (drop i input) = simp length-drop (omega arith) in
-      let v : p + q < length ram = omega arith in
-      let t′ = rw (lt-ltb (p + q) n x) at (code-run n p last ram reply i j a b t q (omega arith) (omega arith)) in
-      rw (← paste-suc ram p (drop i input) q 0 v w, getD-drop, add-suc p q, add-suc i q, ← add-one (p + q), ← add-one (i + q)) (takes t′ refl y)
-
-  module _ {s : Step} {last : ℕ} {ram reply : List ℕ} {i j : ℕ} (t : Turn kind first reason₀ ram₀ input old s last ram reply i j) (a : Ask) (e : a ≡ askOf s) where
-    -- a turn that took code bytes
-    pub code-turn : (n p : ℕ) → a ≡ TakeCode n p → i < length input → (q : ℕ) (ram′ : List ℕ) → Copied input i ram p n ram′ q →
-        (next : Step) → next ≡ flow.codeStep n (p + q) → Turn kind first reason₀ ram₀ input old next last ram′ reply (i + q) j
-    code-turn n p f h q ram′ c next g =
-        let is : s ≡ step.TakeCode n p = asks-code s n p (sym e ∙ f) in
-        let u : (p < n) × (n ≤ length ram) = inside t a e (TakeCode n p) f in
-        let x : q ≡ min (n - p) (length input - i) = c .count-is in
-        rw (c .memory-is, g) (code-run n p last ram reply i j (u .0) (u .1) (rw is at t) q (omega arith) (omega arith))
+    pub halts : a ≡ Halt → Acted receiver (state kind first reason₀ ram₀) input old i j 3 (state kind s last ram) reply
+    halts e = turns.halts does due (held ram₀ Any) t (ap (λ (d : Does ℕ State). needOf d) ((rw e at asked) .is kind last ram))

@@ -2,21 +2,17 @@
 -- Assumes nothing.
 use mathlib.Core.Bool.{Bool, true, false}
 use Rattle.rom_flow.specs.declared.step.Step.{Step}
-use Rattle.rom_flow.specs.declared.step.Step.the-variants.{SendStx, TakeSoh, TakeLow, TakeHigh, TakeExtendedLow, TakeExtendedHigh, SendAck, TakeCode, SendXor, TakeAck, SendNak, Running}
-use Rattle.rom_flow.specs.Receiver.{State}
+use Rattle.rom_flow.specs.declared.step.Step.the-variants.{SendStx, Header, SendAck, TakeCode, SendXor, TakeAck, SendNak, Running}
+use Rattle.rom_flow.specs.State.{State}
 
 -- the step that takes the byte after the XOR
 abbrev pub awaitsAck : Step → Bool
-awaitsAck (TakeAck total) = true
 awaitsAck SendStx = false
-awaitsAck TakeSoh = false
-awaitsAck TakeLow = false
-awaitsAck (TakeHigh low) = false
-awaitsAck TakeExtendedLow = false
-awaitsAck (TakeExtendedHigh low) = false
+awaitsAck (Header step) = false
 awaitsAck (SendAck total) = false
 awaitsAck (TakeCode total place) = false
 awaitsAck (SendXor total) = false
+awaitsAck (TakeAck total) = true
 awaitsAck SendNak = false
 awaitsAck (Running address) = false
 

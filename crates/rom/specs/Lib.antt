@@ -1,4 +1,2 @@
-pub mod Record
 pub mod Session
-pub mod Reach
 pub mod Awaits

@@ -9,10 +9,11 @@ use Rattle.wire.specs.Length.{isRamLength, badRam}
 use Rattle.machine.specs.Session.{Read, sound, unsound, Session, Answer}
 use Rattle.machine.specs.declared.Record.{Record}
 use Rattle.machine.specs.declared.Report.{Report}
-use Rattle.rom.specs.declared.record.Decoded.{Decoded}
-use Rattle.rom.specs.declared.record.Decoded.the-variants.{Sound, Unsound}
-use Rattle.rom_flow.specs.Receiver.{State, state, receiver}
-use Rattle.rom.specs.Record.{written, decodedOf}
+use Rattle.rom_record.specs.declared.Decoded.{Decoded}
+use Rattle.rom_record.specs.declared.Decoded.the-variants.{Sound, Unsound}
+use Rattle.rom_flow.specs.State.{State, state}
+use Rattle.rom_flow.specs.Receiver.{receiver}
+use Rattle.rom_record.specs.Record.{written, decodedOf}
 
 -- a fresh record with this kind number, known or not
 abbrev pub freshRecord : (kind : ℕ) → Record

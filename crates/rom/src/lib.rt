@@ -1,3 +1,2 @@
-// The ROM's UART receiver as a session: its record, and the call that loads code into RAM and runs it.
-pub mod record;
+// The ROM's UART receiver as a session: the call that loads code into RAM and runs it.
 pub mod session;

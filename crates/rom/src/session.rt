@@ -2,25 +2,24 @@
 ghost use mathlib.Core.Path.{_≡_};
 ghost use Rattle.machine.specs.Loop.{Acted};
 ghost use Rattle.machine.specs.Session.{answerOf};
-ghost use Rattle.rom_flow.specs.Receiver.{receiver, state};
+ghost use Rattle.rom_flow.specs.Receiver.{receiver};
+ghost use Rattle.rom_flow.specs.State.{state};
 ghost use Rattle.rom.specs.Session.{freshRecord, rom, answer};
 ghost use Rattle.rom_flow.specs.Sound.{Ready};
-use crate::record::Decoded;
-use crate::record::decode;
-use crate::record::encode;
 use machine::BAD_RECORD;
 use machine::Record;
 use machine::Report;
+use machine::advance;
 use machine::refused;
-use rom_flow::flow::ask_of;
-use rom_flow::flow::code_step;
-use rom_flow::flow::sent;
-use rom_flow::flow::took;
+use rom_flow::ask::Ask;
+use rom_flow::ask::ask_of;
 use rom_flow::kind::Kind;
-use rom_flow::step::Ask;
 use rom_flow::step::Step;
-use rom_flow::store::byte_of;
-use rom_flow::store::take_code;
+use rom_flow::turn::send;
+use rom_flow::turn::take;
+use rom_record::Decoded;
+use rom_record::decode;
+use rom_record::encode;
 use wire::length::BAD_RAM;
 use wire::length::is_ram_length;
 
@@ -78,37 +77,29 @@ fn act(kind: Kind, first: Step, reason: u32, input: &[u8], reply: &mut [u8], ram
     requires { ⌜ Ready kind first (now ram) ⌝ }
     ensures { λ r. ⌜ Acted receiver (state kind first reason (now (ram .entry))) (now (input .entry)) (now (reply .entry)) (r .taken) (r .sent) (r .standing) (state kind (r .step) (r .reason) (now (ram .exit))) (now (reply .exit)) ⌝ }
 {
-    let size = ram.len() as u32;
     let mut step = first;
     let mut noted = reason;
     let mut i: usize = 0;
     let mut j: usize = 0;
     loop {
         match ask_of(step) {
-            Ask::TakeByte => {
+            Ask::Take(taking) => {
                 if i >= input.len() {
                     return stopped(step, noted, i, j, 1);
                 }
-                let after = took(kind, size, step, noted, input[i]);
+                let after = take(taking, kind, noted, input, i, ram);
                 step = after.step;
                 noted = after.reason;
-                i += 1;
+                i = advance(i, after.count, input.len());
             }
-            Ask::TakeCode(total, place) => {
-                if i >= input.len() {
-                    return stopped(step, noted, i, j, 1);
-                }
-                let count = take_code(total, place, input, i, ram);
-                step = code_step(total, place + count);
-                i += count as usize;
-            }
-            Ask::Send(output) => {
+            Ask::Send(sending) => {
                 if j >= reply.len() {
                     return stopped(step, noted, i, j, 2);
                 }
-                reply[j] = byte_of(output, ram);
-                step = sent(step);
-                j += 1;
+                let after = send(sending, noted, reply, j, ram);
+                step = after.step;
+                noted = after.reason;
+                j = advance(j, after.count, reply.len());
             }
             Ask::Halt => {
                 return stopped(step, noted, i, j, 3);

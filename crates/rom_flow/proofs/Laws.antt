@@ -1,50 +1,52 @@
--- The receiver is a lawful machine, with its sound states and with any.
+-- The receiver is a lawful machine, with its sound states and with any, and its actions keep the RAM's length.
 -- Assumes nothing.
 use Prim.Native.Nat.{ℕ}
-use mathlib.Core.Path.{_≡_, refl}
-use mathlib.Core.List.{List}
-use lib.ListN.{length, length-set}
-use Rattle.machine.specs.Lawful.{Lawful}
-use Rattle.machine.proofs.Lines.{Line, takes, sends, ends, line-lawful}
-use Rattle.rom_flow.specs.declared.step.Ask.{Ask}
-use Rattle.rom_flow.specs.declared.step.Ask.the-variants.{TakeByte, TakeCode, Send, Halt}
-use Rattle.rom_flow.specs.Ask.{askOf, needOf, stored}
-use Rattle.rom_flow.specs.Receiver.{State, need, took, byte, sent, due, receiver}
+use mathlib.Core.Path.{refl}
+use mathlib.Core.List.{List, []}
+use Rattle.machine.specs.Lawful.{Any, Lawful}
+use Rattle.machine.proofs.Doing.{Counted, does-lawful, leaves-weaken, leaves-any}
+use Rattle.rom_flow.specs.declared.kind.Kind.{Kind}
+use Rattle.rom_flow.specs.declared.step.HeaderStep.{HeaderStep}
+use Rattle.rom_flow.specs.declared.step.HeaderStep.the-variants.{TakeSoh, TakeLow, TakeHigh, TakeExtendedLow, TakeExtendedHigh}
+use Rattle.rom_flow.specs.declared.step.Step.{Step}
+use Rattle.rom_flow.specs.declared.step.Step.the-variants.{SendStx, Header, SendAck, TakeCode, SendXor, TakeAck, SendNak, Running}
+use Rattle.rom_flow.specs.State.{State, state}
+use Rattle.rom_flow.specs.Flow.{header, doesAt, does}
+use Rattle.rom_flow.specs.Receiver.{due, receiver}
 use Rattle.rom_flow.specs.Sound.{Sound}
-use Rattle.rom_flow.proofs.Steps.{sound-took, sound-sent, due-sent}
+use Rattle.rom_flow.proofs.Sounds.{Held, stays-held}
 
-ask-line : (a : Ask) → Line (needOf a)
-ask-line TakeByte = takes refl
-ask-line (TakeCode length place) = takes refl
-ask-line (Send output) = sends refl
-ask-line Halt = ends refl
+-- a byte that is sent was counted
+module _ (kind : Kind) (reason : ℕ) (ram : List ℕ) where
+  header-due : (step : HeaderStep) → Counted due (state kind (Header step) reason ram) (header kind reason ram step)
+  header-due TakeSoh = tt
+  header-due TakeLow = tt
+  header-due (TakeHigh low) = tt
+  header-due TakeExtendedLow = tt
+  header-due (TakeExtendedHigh low) = tt
 
-pub is-line : (s : State) → Line (need s)
-is-line s = ask-line (askOf (s .step))
+  does-due : (step : Step) → Counted due (state kind step reason ram) (doesAt kind reason ram step)
+  does-due SendStx = refl
+  does-due (Header step) = header-due step
+  does-due (SendAck total) = refl
+  does-due (TakeCode total place) = tt
+  does-due (SendXor total) = refl
+  does-due (TakeAck total) = tt
+  does-due SendNak = refl
+  does-due (Running address) = tt
 
--- a store keeps the RAM's length
-pub stored-length : (a : Ask) (b : ℕ) (ram : List ℕ) → length (stored a b ram) ≡ length ram
-stored-length TakeByte b ram = refl
-stored-length (TakeCode length place) b ram = length-set ram place b
-stored-length (Send output) b ram = refl
-stored-length Halt b ram = refl
+counts : (s : State) → Counted due s (does s)
+counts s = does-due (s .kind) (s .reason) (s .ram) (s .step)
 
-pub took-sound : (s : State) (b : ℕ) → Sound s → Sound (took s b)
-unfolding took
-took-sound s b g =
-    let same = stored-length (askOf (s .step)) b (s .ram) in
-    record {
-      fits = rw same (g .fits);
-      step-sound = rw same (sound-took (s .kind) (length (s .ram)) (s .step) (s .reason) b (g .step-sound));
-    }
-
-pub sent-sound : (s : State) → Sound s → Sound (sent s)
-sent-sound s g = record { fits = g .fits; step-sound = sound-sent (s .kind) (length (s .ram)) (s .step) (g .step-sound) }
+pub held : (ram₀ : List ℕ) (Good : ℕ → Type 0) → Lawful receiver Good (Held ram₀)
+held ram₀ Good = does-lawful does due Good (Held ram₀) (stays-held ram₀ Good) (λ s h. counts s)
 
 pub lawful : (Good : ℕ → Type 0) → Lawful receiver Good Sound
 lawful Good =
-    line-lawful need took byte sent due is-line Good Sound (λ s b e w g. took-sound s b g) (λ s e g. sent-sound s g) (λ s g e. due-sent (s .step) e)
+    does-lawful does due Good Sound
+    (λ s h. leaves-weaken Good (Held (s .ram)) Sound [] s (does s) (λ t k. k .ready) (stays-held (s .ram) Good s (record { ready = h; same = refl })))
+    (λ s h. counts s)
 
 -- any state at all
-pub lawful-any : Lawful receiver (λ (b : ℕ). Unit {0}) (λ (s : State). Unit {0})
-lawful-any = line-lawful need took byte sent due is-line (λ (b : ℕ). Unit {0}) (λ (s : State). Unit {0}) (λ s b e w g. tt) (λ s e g. tt) (λ s g e. due-sent (s .step) e)
+pub lawful-any : Lawful receiver Any Any
+lawful-any = does-lawful does due Any Any (λ s h. leaves-any Any [] s (does s)) (λ s h. counts s)

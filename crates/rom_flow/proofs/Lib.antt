@@ -1,3 +1,5 @@
-pub mod Steps
+pub mod Sounds
 pub mod Xors
 pub mod Laws
+pub mod Codes
+pub mod Asks

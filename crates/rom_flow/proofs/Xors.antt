@@ -8,7 +8,7 @@ use mathlib.Core.List.{List}
 use lib.Bits.{bitXor}
 use lib.ListN.{length, take, drop, getD, length-take}
 use lib.Seq.{drop-cons, getD-take}
-use Rattle.rom_flow.specs.Ask.{xorFrom}
+use Rattle.rom_flow.specs.Flow.{xorFrom}
 
 -- one more byte of the first n
 pub xor-more : (l : List ℕ) (n i x : ℕ) → i < n → n ≤ length l → xorFrom (bitXor x (getD l i 0)) (drop (i + 1) (take n l)) ≡ xorFrom x (drop i (take n l))

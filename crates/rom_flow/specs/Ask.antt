@@ -1,64 +1,71 @@
--- What each step of the receiver asks, and what that does to the RAM (01, "ROM receiver").
+-- What the program asks of a step, and what that says of the flow.
 -- Assumes nothing.
-use Prim.Native.Nat.{ℕ}
-use mathlib.Core.List.{List, [], _∷_}
-use lib.Bits.{bitXor}
-use lib.ListN.{take, set}
-use Rattle.wire.specs.Line.{stx, ack, nak}
-use Rattle.machine.specs.Machine.{Need, runs}
-use Rattle.machine.specs.Machine as machine
+use Prim.Native.Nat.{ℕ, _≤_}
+use mathlib.Core.Path.{_≡_}
+use mathlib.Core.List.{List}
+use lib.ListN.{length}
+use Rattle.machine.specs.Does.{sends, runs}
+use Rattle.machine.specs.Steps.{Taken, Shown}
+use Rattle.rom_flow.specs.declared.kind.Kind.{Kind}
 use Rattle.rom_flow.specs.declared.step.Step.{Step}
-use Rattle.rom_flow.specs.declared.step.Step.the-variants.{SendStx, TakeSoh, TakeLow, TakeHigh, TakeExtendedLow, TakeExtendedHigh, SendAck, SendXor, TakeAck, SendNak, Running}
-use Rattle.rom_flow.specs.declared.step.Step.the-variants as step
-use Rattle.rom_flow.specs.declared.step.Output.{Output}
-use Rattle.rom_flow.specs.declared.step.Output.the-variants.{Byte, Xor}
-use Rattle.rom_flow.specs.declared.step.Ask.{Ask}
-use Rattle.rom_flow.specs.declared.step.Ask.the-variants.{TakeByte, TakeCode, Send, Halt}
+use Rattle.rom_flow.specs.declared.step.Step.the-variants.{Header, TakeCode, SendXor, TakeAck}
+use Rattle.rom_flow.specs.declared.step.Progress.{Progress}
+use Rattle.rom_flow.specs.declared.step.Moved.{Moved}
+use Rattle.rom_flow.specs.declared.ask.Taking.{Taking}
+use Rattle.rom_flow.specs.declared.ask.Taking.the-variants as taking
+use Rattle.rom_flow.specs.declared.ask.Sending.{Sending}
+use Rattle.rom_flow.specs.declared.ask.Sending.the-variants.{Byte, Xor}
+use Rattle.rom_flow.specs.declared.ask.Ask.{Ask}
+use Rattle.rom_flow.specs.declared.ask.Ask.the-variants.{Take, Send, Halt}
+use Rattle.rom_flow.specs.State.{State, state}
+use Rattle.rom_flow.specs.Flow.{goes, doesAt}
+use Rattle.rom_flow.specs.Receiver.{receiver}
 
-abbrev pub askOf : Step → Ask
-askOf SendStx = Send (Byte stx)
-askOf TakeSoh = TakeByte
-askOf TakeLow = TakeByte
-askOf (TakeHigh low) = TakeByte
-askOf TakeExtendedLow = TakeByte
-askOf (TakeExtendedHigh low) = TakeByte
-askOf (SendAck total) = Send (Byte ack)
-askOf (step.TakeCode total place) = TakeCode total place
-askOf (SendXor total) = Send (Xor total)
-askOf (TakeAck total) = TakeByte
-askOf SendNak = Send (Byte nak)
-askOf (Running address) = Halt
+-- the step that takes so
+abbrev pub stepOf : Taking → Step
+stepOf (taking.Header step) = Header step
+stepOf (taking.Code total place) = TakeCode total place
+stepOf (taking.Ack total) = TakeAck total
 
-abbrev pub needOf : Ask → Need
-needOf TakeByte = machine.takeOne
-needOf (TakeCode total place) = machine.takeOne
-needOf (Send output) = machine.sendOne
-needOf Halt = runs
+-- a step sends a byte, and then another step follows, whatever kind, RAM and last reason are
+pub record SendsOn (step : Step) (byte : ℕ) (next : Step) : Type 0 where
+  pub is : (kind : Kind) (reason : ℕ) (ram : List ℕ) → doesAt kind reason ram step ≡ sends byte (goes kind reason ram next)
 
--- the XOR of bytes, starting from x
-abbrev pub xorFrom : (x : ℕ) → List ℕ → ℕ
-xorFrom x [] = x
-xorFrom x (b ∷ bs) = xorFrom (bitXor x b) bs
+-- a step sends so
+abbrev pub SendsSo : Sending → Step → Type 0
+SendsSo (Byte byte next) step = SendsOn step byte next
+SendsSo (Xor total) step = step ≡ SendXor total
 
--- of all of them, starting from 00
-unfoldable pub xorOf : List ℕ → ℕ
-xorOf bytes = xorFrom 0 bytes
+-- what a sending speaks of lies in a RAM of `size` bytes
+abbrev pub InRam : Sending → (size : ℕ) → Type 0
+InRam (Byte byte next) size = Unit {0}
+InRam (Xor total) size = total ≤ size
 
--- the code's bytes are the first of the RAM
-abbrev pub outputOf : Output → (ram : List ℕ) → ℕ
-outputOf (Byte b) ram = b
-outputOf (Xor count) ram = xorOf (take count ram)
+pub record Halts (step : Step) : Type 0 where
+  pub is : (kind : Kind) (reason : ℕ) (ram : List ℕ) → doesAt kind reason ram step ≡ runs
 
--- the byte that is sent; an ask that sends none has 0 here, which nobody reads
-abbrev pub byteOf : Ask → (ram : List ℕ) → ℕ
-byteOf (Send output) ram = outputOf output ram
-byteOf TakeByte ram = 0
-byteOf (TakeCode total place) ram = 0
-byteOf Halt ram = 0
+abbrev pub Asked : Ask → Step → Type 0
+Asked (Take t) step = step ≡ stepOf t
+Asked (Send t) step = SendsSo t step
+Asked Halt step = Halts step
 
--- the RAM once a byte is taken: code byte i is stored at RAM byte i
-abbrev pub stored : Ask → (byte : ℕ) (ram : List ℕ) → List ℕ
-stored (TakeCode total place) byte ram = set ram place byte
-stored TakeByte byte ram = ram
-stored (Send output) byte ram = ram
-stored Halt byte ram = ram
+-- a step and a reason, with a RAM, are the state that the flow comes to: whatever kind and RAM are
+pub record EndsIn (p : Progress) (next : Kind → (ram : List ℕ) → State) : Type 0 where
+  pub is : (kind : Kind) (ram : List ℕ) → state kind (p .step) (p .reason) ram ≡ next kind ram
+
+-- for this kind and a RAM of so many bytes
+pub record Gives (size : ℕ) (kind : Kind) (p : Progress) (next : (ram : List ℕ) → State) : Type 0 where
+  pub is : (ram : List ℕ) → length ram ≡ size → state kind (p .step) (p .reason) ram ≡ next ram
+
+-- for each kind
+pub record GivesEach (size : ℕ) (p : Progress) (next : Kind → (ram : List ℕ) → State) : Type 0 where
+  pub is : (kind : Kind) → Gives size kind p (next kind)
+
+-- code bytes were taken, whatever the kind is
+pub record CodeTaken (total place reason : ℕ) (input : List ℕ) (i : ℕ) (ram : List ℕ) (moved : Moved) (ram′ : List ℕ) : Type 0 where
+  pub is : (kind : Kind) → Taken receiver input i (state kind (TakeCode total place) reason ram) (moved .count) (state kind (moved .step) (moved .reason) ram′)
+
+-- what a sending sent, for each kind and each step that sends so
+pub record SentSo (sending : Sending) (reason : ℕ) (ram : List ℕ) (j : ℕ) (old : List ℕ) (moved : Moved) (reply : List ℕ) : Type 0 where
+  pub is : (kind : Kind) (step : Step) → SendsSo sending step →
+      Shown receiver (state kind step reason ram) j old (moved .count) (state kind (moved .step) (moved .reason) ram) reply

@@ -1,15 +1,22 @@
--- The receiver's flow (01, "ROM receiver", and "Numbers given back": reasons 31 to 34).
+-- The receiver's flow (01, "ROM receiver", and "Numbers given back": reasons 31 to 34). Each line says what a step does: it takes a
+-- byte, and the byte says where the flow goes, or it sends a byte and goes on.
 -- Assumes nothing.
 use Prim.Native.Nat.{ℕ, _+_, _*_}
 use mathlib.Core.Bool.{cond}
+use mathlib.Core.List.{List, [], _∷_}
+use lib.Bits.{bitXor}
 use lib.Dec.{eqb, leb, ltb}
-use Rattle.wire.specs.Line.{soh, ack}
+use lib.ListN.{length, take, set}
+use Rattle.wire.specs.Line.{stx, soh, ack, nak}
 use Rattle.wire.specs.Unit.{firstAddress}
+use Rattle.machine.specs.Does.{Does, takes, sends, runs, tookOf}
 use Rattle.rom_flow.specs.declared.kind.Kind.{Kind}
 use Rattle.rom_flow.specs.declared.kind.Kind.the-variants.{P, E}
+use Rattle.rom_flow.specs.declared.step.HeaderStep.{HeaderStep}
+use Rattle.rom_flow.specs.declared.step.HeaderStep.the-variants.{TakeSoh, TakeLow, TakeHigh, TakeExtendedLow, TakeExtendedHigh}
 use Rattle.rom_flow.specs.declared.step.Step.{Step}
-use Rattle.rom_flow.specs.declared.step.Step.the-variants.{SendStx, TakeSoh, TakeLow, TakeHigh, TakeExtendedLow, TakeExtendedHigh, SendAck, TakeCode, SendXor, TakeAck, SendNak, Running}
-use Rattle.rom_flow.specs.declared.step.Progress.{Progress}
+use Rattle.rom_flow.specs.declared.step.Step.the-variants.{SendStx, Header, SendAck, TakeCode, SendXor, TakeAck, SendNak, Running}
+use Rattle.rom_flow.specs.State.{State, state}
 
 -- the first length of kind E that is extended
 abbrev pub firstExtended : ℕ
@@ -28,67 +35,66 @@ longCode = 33
 abbrev pub notAcked : ℕ
 notAcked = 34
 
-abbrev pub to : Step → (reason : ℕ) → Progress
-to step reason = record { step = step; reason = reason }
+-- the XOR of bytes, starting from x
+abbrev pub xorFrom : (x : ℕ) → List ℕ → ℕ
+xorFrom x [] = x
+xorFrom x (b ∷ bs) = xorFrom (bitXor x b) bs
 
--- a length that is not zero, with a RAM of `size` bytes
-abbrev pub judged : (size reason total : ℕ) → Progress
-judged size reason total = cond (leb total size) (to (SendAck total) reason) (to SendNak longCode)
+-- of all of them, starting from 00
+unfoldable pub xorOf : List ℕ → ℕ
+xorOf bytes = xorFrom 0 bytes
 
 -- both length bytes zero: kind P refuses, kind E takes two more
-abbrev pub zeroLength : Kind → (reason : ℕ) → Progress
-zeroLength P reason = to SendNak emptyCode
-zeroLength E reason = to TakeExtendedLow reason
-
--- a length of two bytes
-abbrev pub headed : Kind → (size reason total : ℕ) → Progress
-headed kind size reason total = cond (eqb total 0) (zeroLength kind reason) (judged size reason total)
+abbrev pub zeroLength : Kind → (reason : ℕ) (ram : List ℕ) → State
+zeroLength P reason ram = state P SendNak emptyCode ram
+zeroLength E reason ram = state E (Header TakeExtendedLow) reason ram
 
 -- where `count` of the code's bytes are in
 abbrev pub codeStep : (total count : ℕ) → Step
 codeStep total count = cond (ltb count total) (TakeCode total count) (SendXor total)
 
--- what a taken byte does; a step that takes none stays
-abbrev pub took : Kind → (size : ℕ) → Step → (reason byte : ℕ) → Progress
-took kind size TakeSoh reason byte = cond (eqb byte soh) (to TakeLow reason) (to SendNak notSoh)
-took kind size TakeLow reason byte = to (TakeHigh byte) reason
-took kind size (TakeHigh low) reason byte = headed kind size reason (low + 256 * byte)
-took kind size TakeExtendedLow reason byte = to (TakeExtendedHigh byte) reason
-took kind size (TakeExtendedHigh low) reason byte = judged size reason (firstExtended + (low + 256 * byte))
-took kind size (TakeCode total place) reason byte = to (codeStep total (place + 1)) reason
-took kind size (TakeAck total) reason byte = cond (eqb byte ack) (to (Running firstAddress) reason) (to SendStx notAcked)
-took kind size SendStx reason byte = to SendStx reason
-took kind size (SendAck total) reason byte = to (SendAck total) reason
-took kind size (SendXor total) reason byte = to (SendXor total) reason
-took kind size SendNak reason byte = to SendNak reason
-took kind size (Running address) reason byte = to (Running address) reason
+module _ (kind : Kind) (reason : ℕ) (ram : List ℕ) where
+  -- the flow goes on; the last reason and the RAM stay
+  abbrev pub goes : Step → State
+  goes step = state kind step reason ram
 
--- the step once its byte is sent; a step that sends none stays
-abbrev pub sent : Step → Step
-sent SendStx = TakeSoh
-sent (SendAck total) = TakeCode total 0
-sent (SendXor total) = TakeAck total
-sent SendNak = SendStx
-sent TakeSoh = TakeSoh
-sent TakeLow = TakeLow
-sent (TakeHigh low) = TakeHigh low
-sent TakeExtendedLow = TakeExtendedLow
-sent (TakeExtendedHigh low) = TakeExtendedHigh low
-sent (TakeCode total place) = TakeCode total place
-sent (TakeAck total) = TakeAck total
-sent (Running address) = Running address
+  -- a reason is noted; its 15 is sent, and then the flow begins again
+  abbrev pub refuses : (why : ℕ) → State
+  refuses why = state kind SendNak why ram
 
--- how many bytes are sent from here before one is taken
-abbrev pub due : Step → ℕ
-due SendStx = 1
-due (SendAck total) = 1
-due (SendXor total) = 1
-due SendNak = 2
-due TakeSoh = 0
-due TakeLow = 0
-due (TakeHigh low) = 0
-due TakeExtendedLow = 0
-due (TakeExtendedHigh low) = 0
-due (TakeCode total place) = 0
-due (TakeAck total) = 0
-due (Running address) = 0
+  -- a length that is not zero
+  abbrev pub judged : (total : ℕ) → State
+  judged total = cond (leb total (length ram)) (goes (SendAck total)) (refuses longCode)
+
+  -- a length of two bytes
+  abbrev pub headed : (total : ℕ) → State
+  headed total = cond (eqb total 0) (zeroLength kind reason ram) (judged total)
+
+  abbrev pub header : HeaderStep → Does ℕ State
+  header TakeSoh = takes (λ byte. cond (eqb byte soh) (goes (Header TakeLow)) (refuses notSoh))
+  header TakeLow = takes (λ byte. goes (Header (TakeHigh byte)))
+  header (TakeHigh low) = takes (λ byte. headed (low + 256 * byte))
+  header TakeExtendedLow = takes (λ byte. goes (Header (TakeExtendedHigh byte)))
+  header (TakeExtendedHigh low) = takes (λ byte. judged (firstExtended + (low + 256 * byte)))
+
+  -- the byte after the XOR: other than 06, nothing is sent, and the flow begins again
+  abbrev pub acked : (byte : ℕ) → State
+  acked byte = cond (eqb byte ack) (goes (Running firstAddress)) (state kind SendStx notAcked ram)
+
+  -- code byte i is stored at RAM byte i
+  abbrev pub doesAt : Step → Does ℕ State
+  doesAt SendStx = sends stx (goes (Header TakeSoh))
+  doesAt (Header step) = header step
+  doesAt (SendAck total) = sends ack (goes (TakeCode total 0))
+  doesAt (TakeCode total place) = takes (λ byte. state kind (codeStep total (place + 1)) reason (set ram place byte))
+  doesAt (SendXor total) = sends (xorOf (take total ram)) (goes (TakeAck total))
+  doesAt (TakeAck total) = takes acked
+  doesAt SendNak = sends nak (goes SendStx)
+  doesAt (Running address) = runs
+
+abbrev pub does : State → Does ℕ State
+does s = doesAt (s .kind) (s .reason) (s .ram) (s .step)
+
+-- the state once a byte is taken
+abbrev pub took : State → (byte : ℕ) → State
+took s byte = tookOf (does s) s byte

@@ -1,5 +1,5 @@
+pub mod State
 pub mod Flow
-pub mod Ask
-pub mod InRam
 pub mod Receiver
 pub mod Sound
+pub mod Ask

@@ -1,44 +1,32 @@
--- The receiver as a machine: its kind, where the flow stands, the last reason and the RAM.
+-- The receiver as a machine, and a fresh one.
 -- Assumes nothing.
 use Prim.Native.Nat.{ℕ}
 use mathlib.Core.List.{List}
-use lib.ListN.{length}
-use Rattle.machine.specs.Machine.{Need, Machine, line}
+use Rattle.machine.specs.Machine.{Machine}
+use Rattle.machine.specs.Does.{lineOf}
 use Rattle.rom_flow.specs.declared.kind.Kind.{Kind}
 use Rattle.rom_flow.specs.declared.step.Step.{Step}
-use Rattle.rom_flow.specs.declared.step.Step.the-variants.{SendStx}
-use Rattle.rom_flow.specs.Flow as flow
-use Rattle.rom_flow.specs.Ask.{askOf, needOf, byteOf, stored}
+use Rattle.rom_flow.specs.declared.step.Step.the-variants.{SendStx, Header, SendAck, TakeCode, SendXor, TakeAck, SendNak, Running}
+use Rattle.rom_flow.specs.State.{State, state}
+use Rattle.rom_flow.specs.Flow.{does}
 
-pub record State : Type 0 where
-  pub kind : Kind
-  pub step : Step
-  pub reason : ℕ
-  pub ram : List ℕ
+-- how many bytes are sent from a step before one is taken
+abbrev pub dueAt : Step → ℕ
+dueAt SendStx = 1
+dueAt (Header step) = 0
+dueAt (SendAck total) = 1
+dueAt (TakeCode total place) = 0
+dueAt (SendXor total) = 1
+dueAt (TakeAck total) = 0
+dueAt SendNak = 2
+dueAt (Running address) = 0
 
-abbrev pub state : Kind → Step → (reason : ℕ) (ram : List ℕ) → State
-state kind step reason ram = record { kind = kind; step = step; reason = reason; ram = ram }
+abbrev pub due : State → ℕ
+due s = dueAt (s .step)
+
+abbrev pub receiver : Machine ℕ State
+receiver = lineOf does due
 
 -- the flow's first step, with no reason yet
 abbrev pub fresh : Kind → (ram : List ℕ) → State
 fresh kind ram = state kind SendStx 0 ram
-
-abbrev pub need : State → Need
-need s = needOf (askOf (s .step))
-
-unfoldable pub took : State → (byte : ℕ) → State
-took s byte =
-    let next = flow.took (s .kind) (length (s .ram)) (s .step) (s .reason) byte in
-    record { kind = s .kind; step = next .step; reason = next .reason; ram = stored (askOf (s .step)) byte (s .ram) }
-
-abbrev pub byte : State → ℕ
-byte s = byteOf (askOf (s .step)) (s .ram)
-
-abbrev pub sent : State → State
-sent s = record { kind = s .kind; step = flow.sent (s .step); reason = s .reason; ram = s .ram }
-
-abbrev pub due : State → ℕ
-due s = flow.due (s .step)
-
-abbrev pub receiver : Machine ℕ State
-receiver = line need took byte sent due

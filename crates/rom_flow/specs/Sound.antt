@@ -10,8 +10,10 @@ use Rattle.wire.specs.Unit.{isInRam}
 use Rattle.rom_flow.specs.declared.kind.Kind.{Kind}
 use Rattle.rom_flow.specs.declared.kind.Kind.the-variants.{P, E}
 use Rattle.rom_flow.specs.declared.step.Step.{Step}
-use Rattle.rom_flow.specs.declared.step.Step.the-variants.{SendStx, TakeSoh, TakeLow, TakeHigh, TakeExtendedLow, TakeExtendedHigh, SendAck, TakeCode, SendXor, TakeAck, SendNak, Running}
-use Rattle.rom_flow.specs.Receiver.{State}
+use Rattle.rom_flow.specs.declared.step.Step.the-variants.{SendStx, Header, SendAck, TakeCode, SendXor, TakeAck, SendNak, Running}
+use Rattle.rom_flow.specs.declared.step.HeaderStep.{HeaderStep}
+use Rattle.rom_flow.specs.declared.step.HeaderStep.the-variants.{TakeSoh, TakeLow, TakeHigh, TakeExtendedLow, TakeExtendedHigh}
+use Rattle.rom_flow.specs.State.{State}
 
 abbrev pub Extends : Kind → Type 0
 Extends P = ⊥
@@ -21,13 +23,16 @@ Extends E = Unit {0}
 abbrev pub Sized : (size total : ℕ) → Type 0
 Sized size total = (0 < total) × (total ≤ size)
 
+abbrev pub SoundHeader : Kind → HeaderStep → Type 0
+SoundHeader kind TakeSoh = Unit {0}
+SoundHeader kind TakeLow = Unit {0}
+SoundHeader kind (TakeHigh low) = Unit {0}
+SoundHeader kind TakeExtendedLow = Extends kind
+SoundHeader kind (TakeExtendedHigh low) = Extends kind
+
 abbrev pub SoundStep : Kind → (size : ℕ) → Step → Type 0
 SoundStep kind size SendStx = Unit {0}
-SoundStep kind size TakeSoh = Unit {0}
-SoundStep kind size TakeLow = Unit {0}
-SoundStep kind size (TakeHigh low) = Unit {0}
-SoundStep kind size TakeExtendedLow = Extends kind
-SoundStep kind size (TakeExtendedHigh low) = Extends kind
+SoundStep kind size (Header step) = SoundHeader kind step
 SoundStep kind size (SendAck total) = Sized size total
 SoundStep kind size (TakeCode total place) = (place < total) × (total ≤ size)
 SoundStep kind size (SendXor total) = Sized size total

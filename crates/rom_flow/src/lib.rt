@@ -1,5 +1,7 @@
-// The ROM's UART receiver, step by step: its kinds, its flow, and what it stores.
-pub mod flow;
+// The ROM's UART receiver, step by step: its kinds, what a step asks, and what taken bytes do.
+pub mod ask;
+pub mod code;
+pub mod header;
 pub mod kind;
 pub mod step;
-pub mod store;
+pub mod turn;

@@ -1,15 +1,20 @@
-// Where the receiver's flow stands, and what a step asks.
+// Where the receiver's flow stands.
+ghost use mathlib.Core.Path.{_≡_};
 use wire::unit::RamAddress;
 
-// A step of the flow with what the header has brought: the low byte of a length, the code's length, the next code byte's place.
-// Running has the address at which code runs.
-pub enum Step {
-    SendStx,
+// The steps that take a header: 01, then the bytes of a length. TakeHigh and TakeExtendedHigh have the low byte.
+pub enum HeaderStep {
     TakeSoh,
     TakeLow,
     TakeHigh(u32),
     TakeExtendedLow,
     TakeExtendedHigh(u32),
+}
+
+// A step of the flow: the header, the code with its length and the next byte's place, its XOR, or code running at an address.
+pub enum Step {
+    SendStx,
+    Header(HeaderStep),
     SendAck(u32),
     TakeCode(u32, u32),
     SendXor(u32),
@@ -18,22 +23,24 @@ pub enum Step {
     Running(RamAddress),
 }
 
-// What is sent: a byte, or the XOR of so many code bytes.
-pub enum Output {
-    Byte(u8),
-    Xor(u32),
-}
-
-// What a step asks: a byte, code bytes (the code's length and the next place), room for an output, or nothing since code runs.
-pub enum Ask {
-    TakeByte,
-    TakeCode(u32, u32),
-    Send(Output),
-    Halt,
-}
-
 // A step together with the last reason.
 pub struct Progress {
     pub step: Step,
     pub reason: u32,
+}
+
+pub fn to(step: Step, reason: u32) -> Progress
+    ensures { λ r. ⌜ r ≡ record { step = step; reason = reason } ⌝ }
+{
+    Progress {
+        step: step,
+        reason: reason,
+    }
+}
+
+// The same after so many bytes were taken.
+pub struct Moved {
+    pub step: Step,
+    pub reason: u32,
+    pub count: usize,
 }

@@ -17,8 +17,7 @@ use Rattle.wire.specs.Length.{isBetween, isFlashLength}
 use Rattle.wire.proofs.Bytes.{areBytes, are-bytes}
 use Rattle.machine.specs.Lawful.{Every}
 use Rattle.machine.specs.Words.{wordsOf}
-use Rattle.rom_flow.specs.Receiver as receiver
-use Rattle.rom.specs.Record as rom-record
+use Rattle.rom_record.specs.Record as rom-record
 use Rattle.command.specs.Demand.{judged}
 use Rattle.command.specs.Opcode.{opcodeOf}
 use Rattle.command_execution.specs.Execution.{executed}
@@ -81,14 +80,14 @@ calls-accepted romE = (refl, refl)
 calls-accepted uartboot = (refl, refl)
 
 first-sent : (kind : Kind) → firstCall kind [] .report .sent ≡ greetingLengthOf kind
-unfolding answerOf accepted act call receiver.took rom-record.decodedOf rom-record.stepIn rom-record.phaseIn isBetween isFlashLength device-record.decodedOf device-record.stepIn device-record.phaseIn device-session.refusalOf
+unfolding answerOf accepted act call rom-record.decodedOf rom-record.stepIn rom-record.phaseIn isBetween isFlashLength device-record.decodedOf device-record.stepIn device-record.phaseIn device-session.refusalOf
 first-sent romP = refl
 first-sent romE = refl
 first-sent uartboot = refl
 
 bytes-sent : (kind : Kind) → (length (take (firstCall kind [] .report .sent) (firstCall kind [] .reply)) ≡ greetingLengthOf kind)
     × (length (take (firstCall kind (refusedStream kind) .report .sent) (firstCall kind (refusedStream kind) .reply)) ≡ refusedLength kind)
-unfolding answerOf accepted act call receiver.took rom-record.decodedOf rom-record.stepIn rom-record.phaseIn isBetween isFlashLength device-record.decodedOf device-record.stepIn device-record.phaseIn device-session.refusalOf opcodeOf
+unfolding answerOf accepted act call rom-record.decodedOf rom-record.stepIn rom-record.phaseIn isBetween isFlashLength device-record.decodedOf device-record.stepIn device-record.phaseIn device-session.refusalOf opcodeOf
 bytes-sent romP = (refl, refl)
 bytes-sent romE = (refl, refl)
 bytes-sent uartboot = (refl, refl)
@@ -96,7 +95,7 @@ bytes-sent uartboot = (refl, refl)
 -- an accepted header is answered with 06
 acknowledged : (kind : Kind) → let a = firstCall kind (headerOf kind (acceptedLow kind) 0) in
     (a .report .number ≡ 0) × (getD (a .reply) (greetingLengthOf kind) 0 ≡ ack)
-unfolding answerOf accepted act call receiver.took rom-record.decodedOf rom-record.stepIn rom-record.phaseIn isBetween isFlashLength device-record.decodedOf device-record.stepIn device-record.phaseIn device-session.refusalOf opcodeOf
+unfolding answerOf accepted act call rom-record.decodedOf rom-record.stepIn rom-record.phaseIn isBetween isFlashLength device-record.decodedOf device-record.stepIn device-record.phaseIn device-session.refusalOf opcodeOf
 acknowledged romP = (refl, refl)
 acknowledged romE = (refl, refl)
 acknowledged uartboot = (refl, refl)

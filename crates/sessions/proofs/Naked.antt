@@ -12,7 +12,7 @@ use Rattle.machine.proofs.Paths.{traced}
 use Rattle.command.specs.Demand.{judged}
 use Rattle.command.specs.Opcode.{opcodeOf}
 use Rattle.uartboot_flow.specs.Fresh.{fresh}
-use Rattle.uartboot_flow.specs.Due.{device}
+use Rattle.uartboot_flow.specs.Device.{device}
 use Rattle.sessions.specs.Naked.{historyOf, NakSpeaks}
 
 pub nak-speaks : NakSpeaks

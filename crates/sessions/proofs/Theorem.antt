@@ -1,18 +1,18 @@
 -- Demand 3 holds, for all three kinds.
 -- Assumes nothing.
 use Prim.Native.Nat.{ℕ}
-use mathlib.Core.Path.{_≡_, refl}
 use mathlib.Core.List.{List}
 use Rattle.wire.specs.Bytes.{Byte}
 use Rattle.machine.specs.History.{Event}
+use Rattle.machine.specs.Reach.{Reach}
 use Rattle.machine.specs.SessionLaws.{OneByOne, Faithful}
 use Rattle.machine.proofs.Sessions.{takes-all, definition-ends, session-claim, made-claim}
 use Rattle.rom_flow.specs.declared.kind.Kind.the-variants.{P, E}
-use Rattle.rom.specs.Record as rom-record
+use Rattle.rom.proofs.Reached as rom-reached
 use Rattle.rom.proofs.Faith as rom
-use Rattle.uartboot_record.specs.Record as device-record
+use Rattle.uartboot.proofs.Reached as device-reached
 use Rattle.uartboot.proofs.Faith as device-faith
-use Rattle.sessions.specs.Kind.{Kind, romP, romE, uartboot, MemoriesOf, StateOf, sessionOf, freshOf, freshRecordOf}
+use Rattle.sessions.specs.Kind.{Kind, romP, romE, uartboot, StateOf, sessionOf, SameOf, freshOf, freshRecordOf}
 use Rattle.sessions.specs.Demand3.{Told, Demand3}
 
 -- what a session keeps to, and that its invariant tells what is to be told
@@ -28,18 +28,16 @@ follows romP = record { Sound = _; Invariant = _; one = rom.one-by-one; law = ro
 follows romE = record { Sound = _; Invariant = _; one = rom.one-by-one; law = rom.faithful E; tells = λ events s h. (h, tt) }
 follows uartboot = record { Sound = _; Invariant = _; one = device-faith.one-by-one; law = device-faith.faithful; tells = device-faith.tells }
 
--- a fresh state's record is the one that is handed out
-starts-fresh : (kind : Kind) (mem : MemoriesOf kind) → sessionOf kind .write (freshOf kind mem) ≡ freshRecordOf kind
-unfolding rom-record.written device-record.written
-starts-fresh romP mem = refl
-starts-fresh romE mem = refl
-starts-fresh uartboot mem = refl
+reaches : (kind : Kind) → Reach (sessionOf kind) (SameOf kind) (freshOf kind) (freshRecordOf kind)
+reaches romP = rom-reached.records-reached P
+reaches romE = rom-reached.records-reached E
+reaches uartboot = device-reached.records-reached
 
 pub demand-3 : Demand3
 demand-3 kind =
     let f = follows kind in
     record {
-      starts-fresh = starts-fresh kind;
+      reach = reaches kind;
       definition-ends = definition-ends (sessionOf kind) (f .law) (f .tells) (f .one);
       defined = session-claim (sessionOf kind) (f .law) (f .tells);
       made = made-claim (sessionOf kind) (f .law) (f .tells);

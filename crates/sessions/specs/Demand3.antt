@@ -1,6 +1,6 @@
 -- Demand 3 (01, "Demand 3, one claim about a whole list"): one statement for all three kinds, all memories, every stream of bytes and
--- every list of calls, the refused ones among them. But for the first its lines stand in machine's SessionClaim, over any session:
---   starts-fresh      a session starts at the record that is handed out for it
+-- every list of calls, the refused ones among them. Its lines stand in machine's Reach and SessionClaim, over any session:
+--   reach             a session starts at the record that is handed out for it; this and every record that calls can reach are accepted
 --   definition-ends   the definition stops when a take finds the stream empty, or when code runs
 --   refused-lengths   where the lengths are refused, all calls are, and nothing changes
 --   no-refusal        else none is: every record on the way is sound
@@ -12,20 +12,20 @@
 --   told              what the actions of the flow tell holds where the list has come, and at every state on the way
 -- Assumes nothing.
 use Prim.Native.Nat.{ℕ}
-use mathlib.Core.Path.{_≡_}
 use mathlib.Core.List.{List}
 use Rattle.wire.specs.Bytes.{Byte}
 use Rattle.machine.specs.History.{Event}
 use Rattle.machine.specs.Acknowledged.{RunsExactly}
+use Rattle.machine.specs.Reach.{Reach}
 use Rattle.machine.specs.SessionClaim.{TakesAll, DefinitionEnds, Claim, MadeClaim}
-use Rattle.sessions.specs.Kind.{Kind, MemoriesOf, StateOf, sessionOf, freshOf, freshRecordOf, awaitsOf, NakUnchanged}
+use Rattle.sessions.specs.Kind.{Kind, StateOf, sessionOf, SameOf, freshOf, freshRecordOf, awaitsOf, NakUnchanged}
 
 -- code runs exactly when the host has acknowledged a checksum, and a command NAKed before execution has changed no RAM or flash
 abbrev pub Told : (kind : Kind) → List (Event ℕ (StateOf kind)) → StateOf kind → Type 0
 Told kind events s = RunsExactly (awaitsOf kind) (sessionOf kind .machine) events s × NakUnchanged kind events s
 
 pub record ForKind (kind : Kind) : Type 0 where
-  pub starts-fresh : (mem : MemoriesOf kind) → sessionOf kind .write (freshOf kind mem) ≡ freshRecordOf kind
+  pub reach : Reach (sessionOf kind) (SameOf kind) (freshOf kind) (freshRecordOf kind)
   pub definition-ends : DefinitionEnds (sessionOf kind) Byte (freshOf kind)
   -- of lists of the definition's own calls
   pub defined : Claim (sessionOf kind) Byte (Told kind) (freshOf kind)

@@ -3,15 +3,18 @@
 use Prim.Native.Nat.{ℕ}
 use mathlib.Core.Bool.{Bool}
 use mathlib.Core.List.{List}
+use mathlib.Core.Path.{_≡_}
+use lib.ListN.{length}
 use Rattle.machine.specs.History.{Event}
 use Rattle.machine.specs.Session.{Session}
 use Rattle.machine.specs.declared.Record.{Record}
 use Rattle.rom_flow.specs.declared.kind.Kind.the-variants.{P, E}
 use Rattle.rom_flow.specs.Receiver as receiver
-use Rattle.rom.specs.Record.{kindNumber}
+use Rattle.rom_flow.specs.State as receiver-state
+use Rattle.rom_record.specs.Record.{kindNumber}
 use Rattle.rom.specs.Session.{freshRecord, rom}
 use Rattle.rom.specs.Awaits as rom-awaits
-use Rattle.command_execution.specs.Memories.{Memories}
+use Rattle.command_execution.specs.Memories.{Memories, SameLengths}
 use Rattle.uartboot_flow.specs.State as device
 use Rattle.uartboot_flow.specs.Fresh as device-fresh
 use Rattle.uartboot.specs.Session as device-session
@@ -29,8 +32,8 @@ MemoriesOf romE = List ℕ
 MemoriesOf uartboot = Memories
 
 abbrev pub StateOf : Kind → Type 0
-StateOf romP = receiver.State
-StateOf romE = receiver.State
+StateOf romP = receiver-state.State
+StateOf romE = receiver-state.State
 StateOf uartboot = device.State
 
 abbrev pub sessionOf : (kind : Kind) → Session ℕ (MemoriesOf kind) (StateOf kind)
@@ -49,6 +52,12 @@ abbrev pub freshRecordOf : Kind → Record
 freshRecordOf romP = freshRecord (kindNumber P)
 freshRecordOf romE = freshRecord (kindNumber E)
 freshRecordOf uartboot = device-fresh.freshRecord
+
+-- memories of the same lengths
+abbrev pub SameOf : (kind : Kind) (a b : MemoriesOf kind) → Type 0
+SameOf romP a b = length a ≡ length b
+SameOf romE a b = length a ≡ length b
+SameOf uartboot a b = SameLengths a b
 
 -- the flow takes the byte for a checksum: after the ROM's XOR, or after the CRC of a Run's payload
 abbrev pub awaitsOf : (kind : Kind) → StateOf kind → Bool

@@ -10,7 +10,7 @@ use Rattle.machine.specs.History.{Event, trace, Leads}
 use Rattle.command_execution.specs.Memories.{Memories}
 use Rattle.uartboot_flow.specs.State.{State}
 use Rattle.uartboot_flow.specs.Fresh.{fresh}
-use Rattle.uartboot_flow.specs.Due.{device}
+use Rattle.uartboot_flow.specs.Device.{device}
 use Rattle.uartboot.specs.History.{since, lastOf}
 use Rattle.sessions.specs.Fakes.{small}
 

@@ -15,7 +15,7 @@ use Rattle.machine.proofs.Answers.{refused-length, refused-record, accepted-cal
 use Rattle.command_execution.specs.Memories.{Memories, Fitting}
 use Rattle.uartboot_flow.specs.declared.step.Step.{Step}
 use Rattle.uartboot_flow.specs.State.{state}
-use Rattle.uartboot_flow.specs.Due.{device}
+use Rattle.uartboot_flow.specs.Device.{device}
 use Rattle.uartboot_record.specs.declared.Found.{Found}
 use Rattle.uartboot_record.specs.declared.Found.the-variants.{At, Unsound}
 use Rattle.uartboot_record.specs.Record.{written, decodedOf}

@@ -8,23 +8,22 @@ use mathlib.Core.Bool.{Bool, true, false, cond, _&&_}
 use mathlib.Core.List.{List, [], _∷_}
 use lib.ListN.{length}
 use Rattle.wire.specs.Bytes.{Byte}
-use Rattle.machine.specs.Machine.{acts, isRunning}
-use Rattle.machine.specs.Does.{Does, takes, sends, runs, needOf, tookOf, sentOf, byteOf}
+use Rattle.machine.specs.Machine.{acts}
+use Rattle.machine.specs.Does.{Does, takes, sends, runs, needOf, tookOf, sentOf}
 use Rattle.machine.specs.History.{Event}
 use Rattle.machine.specs.Acknowledged.{RunsExactly}
 use Rattle.machine.specs.SessionLaws.{OneByOne, Faithful}
 use Rattle.machine.proofs.Acknowledgements.{runs-on}
-use Rattle.machine.proofs.Doing.{Leaves, is-line, does-kept, leaves-weaken}
-use Rattle.machine.proofs.Lines.{line-one, line-speaks}
+use Rattle.machine.proofs.Doing.{Leaves, does-one, does-speaks, does-kept, leaves-weaken}
 use Rattle.command_execution.specs.Memories.{Memories}
 use Rattle.uartboot_flow.specs.declared.step.Step.{Step}
 use Rattle.uartboot_flow.specs.declared.step.Step.the-variants.{Greeting, Header, Command, Answer, Refusal, Running}
 use Rattle.uartboot_flow.specs.State.{State}
 use Rattle.uartboot_flow.specs.Flow.{does}
-use Rattle.uartboot_flow.specs.Due.{due, device}
+use Rattle.uartboot_flow.specs.Due.{due}
+use Rattle.uartboot_flow.specs.Device.{device}
 use Rattle.uartboot_flow.specs.Fresh.{fresh}
 use Rattle.uartboot_flow.specs.Sound.{Sound}
-use Rattle.uartboot_flow.proofs.Asks.{asked-need}
 use Rattle.uartboot_flow.proofs.Laws.{same-lengths, lawful}
 use Rattle.uartboot_flow.proofs.Sounds.{Held, stays-held}
 use Rattle.uartboot_record.specs.Record.{written}
@@ -107,7 +106,7 @@ invariant-next events s t view views e n h l k =
     record {
       sound = k;
       checks = l .checks;
-      exactly = runs-on awaits device events s t view views n (h .exactly) (ap isRunning (asked-need (t .reason) (t .mem) (t .step) _ refl) ∙ l .starts);
+      exactly = runs-on awaits device events s t view views n (h .exactly) (l .starts);
       began =
           subst (λ (x : State). Began (cond (begins (record { state = s; view = view })) (since (s .mem) false) (noted (isEarly (s .step) && isRefusal (x .step)) (lastOf events))) t) (sym e)
           (next-began s t (begins (record { state = s; view = view })) (l .goes-on) (lastOf events) (h .began));
@@ -127,7 +126,7 @@ invariant-kept events s h = go (does s) refl (does-left (s .reason) (s .mem) (s 
     go runs e l k = tt
 
 pub one-by-one : OneByOne device
-one-by-one = line-one (λ s. needOf (does s)) (λ s a. tookOf (does s) s a) (λ s. byteOf (does s)) (λ s. sentOf (does s) s) due (is-line does due)
+one-by-one = does-one does due
 
 -- the session's lists of calls follow its definition
 pub faithful : Faithful uartboot Byte fresh Sound Invariant
@@ -135,7 +134,7 @@ unfolding written
 faithful =
     record {
       lawful = lawful Byte;
-      speaks = line-speaks (λ s. needOf (does s)) (λ s a. tookOf (does s) s a) (λ s. byteOf (does s)) (λ s. sentOf (does s) s) due (is-line does due);
+      speaks = does-speaks does due;
       fresh-sound = λ m e. record { fitting = fitting _ _ _ e; step-sound = omega arith };
       fresh-memories = λ m. refl;
       fits = λ s g. fitting-accepted _ _ _ (g .fitting);

@@ -11,7 +11,7 @@ use borrow.Author.Tests.{eqb-true}
 use Rattle.wire.specs.Line.{soh, ack}
 use Rattle.wire.proofs.Tests.{in-cond}
 use Rattle.machine.specs.Machine.{isRunning}
-use Rattle.machine.specs.Does.{Does, takes, sends, runs}
+use Rattle.machine.specs.Does.{Does, takes, sends, runs, needOf}
 use Rattle.machine.specs.Acknowledged.{tookByte}
 use Rattle.command.specs.declared.opcode.Opcode.{Opcode}
 use Rattle.command.specs.declared.opcode.Opcode.the-variants as op
@@ -34,15 +34,13 @@ use Rattle.uartboot_flow.specs.declared.step.CommandStep.the-variants.{SendAck,
 use Rattle.uartboot_flow.specs.declared.step.AnswerStep.{AnswerStep}
 use Rattle.uartboot_flow.specs.declared.step.AnswerStep.the-variants as a
 use Rattle.uartboot_flow.specs.State.{State, state}
-use Rattle.uartboot_flow.specs.Flow.{crc16, greetingLength, first, ends, executes, goes, headed, header, stored, command, answer, doesAt}
-use Rattle.uartboot_flow.specs.Ask.{askOf}
+use Rattle.uartboot_flow.specs.Flow.{crc16, greetingLength, first, ends, executes, goes, headed, header, stored, command, answer, doesAt, does}
 use Rattle.uartboot_flow.specs.Sound.{Ready}
-use Rattle.uartboot_flow.proofs.Asks.{needIn}
 use Rattle.uartboot.specs.History.{awaitsRun, isSoh, isEarly, begins}
 
--- code runs at the step
-abbrev pub haltsAt : Step → Bool
-haltsAt step = isRunning (needIn (askOf step))
+-- code runs
+abbrev pub running : State → Bool
+running s = isRunning (needOf (does s))
 
 -- RAM and flash are as they were
 abbrev pub Stores : (s t : State) → Type 0
@@ -86,7 +84,7 @@ ChecksAt m (Running address) = Unit {0}
 
 -- an action at s, with these bytes in view, left t
 pub record Left (s : State) (view : List ℕ) (t : State) : Type 0 where
-  pub starts : haltsAt (t .step) ≡ (awaitsRun (s .step) && tookByte ack view)
+  pub starts : running t ≡ (awaitsRun (s .step) && tookByte ack view)
   pub goes-on : GoesIf (begins (record { state = s; view = view })) s t
   pub checks : ChecksAt (t .mem) (t .step)
 
@@ -96,7 +94,7 @@ Lefts s (sends byte next) = Left s [] next
 Lefts s runs = Unit {0}
 
 -- after an execution
-ends-starts : (reason : ℕ) (opcode : Opcode) (ending : Ending) (m : Memories) → haltsAt (ends reason opcode ending m .step) ≡ execution.isRunning ending
+ends-starts : (reason : ℕ) (opcode : Opcode) (ending : Ending) (m : Memories) → running (ends reason opcode ending m) ≡ execution.isRunning ending
 ends-starts reason opcode Silent m = refl
 ends-starts reason opcode (Answers count) m = refl
 ends-starts reason opcode (Runs address) m = refl

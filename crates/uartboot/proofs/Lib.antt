@@ -1,5 +1,5 @@
-pub mod Turns
 pub mod Calls
+pub mod Turns
 pub mod Reached
 pub mod Histories
 pub mod Faith

@@ -17,7 +17,7 @@ use Rattle.uartboot_flow.specs.declared.step.HeaderStep.the-variants.{TakeSoh, 
 use Rattle.uartboot_flow.specs.declared.step.CommandStep.{CommandStep}
 use Rattle.uartboot_flow.specs.declared.step.CommandStep.the-variants.{SendAck, TakePayload, SendPayloadAck, SendCrcLow, SendCrcHigh, TakeGo}
 use Rattle.uartboot_flow.specs.State.{State}
-use Rattle.uartboot_flow.specs.Due.{device}
+use Rattle.uartboot_flow.specs.Device.{device}
 
 -- the step that takes the byte after a payload's CRC
 abbrev pub isGo : CommandStep → Bool

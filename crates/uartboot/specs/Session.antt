@@ -10,7 +10,7 @@ use Rattle.machine.specs.Session.{Read, sound, unsound, Session, Answer}
 use Rattle.machine.specs.declared.Report.{Report}
 use Rattle.command_execution.specs.Memories.{Memories}
 use Rattle.uartboot_flow.specs.State.{State, state}
-use Rattle.uartboot_flow.specs.Due.{device}
+use Rattle.uartboot_flow.specs.Device.{device}
 use Rattle.uartboot_record.specs.declared.Found.{Found}
 use Rattle.uartboot_record.specs.declared.Found.the-variants.{At, Unsound}
 use Rattle.uartboot_record.specs.Record.{written, decodedOf}

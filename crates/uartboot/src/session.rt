@@ -1,17 +1,17 @@
 // The session: the loop over its turns, and the call.
 ghost use mathlib.Core.Path.{_≡_};
-ghost use Prim.Native.Nat.{_+_, _≤_};
 ghost use lib.ListN.{length};
 ghost use Rattle.machine.specs.Loop.{Acted};
 ghost use Rattle.machine.specs.Session.{answerOf};
 ghost use Rattle.command_execution.specs.Memories.{memories};
 ghost use Rattle.uartboot_flow.specs.State.{state};
-ghost use Rattle.uartboot_flow.specs.Due.{device};
+ghost use Rattle.uartboot_flow.specs.Device.{device};
 ghost use Rattle.uartboot_flow.specs.Sound.{Ready};
 ghost use Rattle.uartboot.specs.Session.{refusalOf, uartboot, answer};
 use machine::BAD_RECORD;
 use machine::Record;
 use machine::Report;
+use machine::advance;
 use machine::refused;
 use uartboot_flow::ask::Ask;
 use uartboot_flow::ask::ask_of;
@@ -49,14 +49,6 @@ fn stopped(step: Step, reason: u32, taken: usize, sent: usize, standing: u32) ->
     }
 }
 
-// So many bytes further on. That this lies within `end` shows that the sum doesn't wrap.
-fn advance(place: usize, count: usize, end: usize) -> usize
-    requires { ⌜ place + count ≤ end ⌝ }
-    ensures { λ r. ⌜ r ≡ place + count ⌝ }
-{
-    place + count
-}
-
 // Acts until a byte or room is missing, or code runs.
 fn act(
     first: Step,
@@ -80,7 +72,7 @@ fn act(
                 if i >= input.len() {
                     return stopped(step, noted, i, j, 1);
                 }
-                let after = take(taking, step, noted, input, i, ram, flash, work);
+                let after = take(taking, noted, input, i, ram, flash, work);
                 step = after.step;
                 noted = after.reason;
                 i = advance(i, after.count, input.len());
@@ -89,7 +81,7 @@ fn act(
                 if j >= reply.len() {
                     return stopped(step, noted, i, j, 2);
                 }
-                let after = send(sending, step, noted, reply, j, ram, flash, work);
+                let after = send(sending, noted, reply, j, ram, flash, work);
                 step = after.step;
                 noted = after.reason;
                 j = advance(j, after.count, reply.len());

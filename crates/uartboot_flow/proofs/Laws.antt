@@ -3,11 +3,12 @@
 use Prim.Native.Nat.{ℕ}
 use mathlib.Core.Path.{refl}
 use mathlib.Core.List.{[]}
-use Rattle.machine.specs.Lawful.{Kept, Lawful}
-use Rattle.machine.proofs.Doing.{does-kept, does-lawful, leaves-weaken}
+use Rattle.machine.specs.Lawful.{Lawful}
+use Rattle.machine.proofs.Doing.{does-lawful, leaves-weaken}
 use Rattle.command_execution.specs.Memories.{Memories, SameLengths}
 use Rattle.uartboot_flow.specs.Flow.{does}
-use Rattle.uartboot_flow.specs.Due.{due, device}
+use Rattle.uartboot_flow.specs.Due.{due}
+use Rattle.uartboot_flow.specs.Device.{device}
 use Rattle.uartboot_flow.specs.Sound.{Sound}
 use Rattle.uartboot_flow.proofs.Sounds.{Held, stays-held}
 use Rattle.uartboot_flow.proofs.Dues.{does-due}
@@ -15,8 +16,8 @@ use Rattle.uartboot_flow.proofs.Dues.{does-due}
 pub same-lengths : (m : Memories) → SameLengths m m
 same-lengths m = record { same-ram = refl; same-flash = refl; same-work = refl }
 
-pub held : (m₀ : Memories) (Good : ℕ → Type 0) → Kept device Good (λ _ s. Held m₀ s)
-held m₀ Good = does-kept does due Good (λ _ s. Held m₀ s) (λ events s h. leaves-weaken Good (Held m₀) (Held m₀) events s (does s) (λ t k. k) (stays-held m₀ Good s h))
+pub held : (m₀ : Memories) (Good : ℕ → Type 0) → Lawful device Good (Held m₀)
+held m₀ Good = does-lawful does due Good (Held m₀) (stays-held m₀ Good) (λ s h. does-due (s .reason) (s .mem) (s .step) (h .ready))
 
 pub lawful : (Good : ℕ → Type 0) → Lawful device Good Sound
 lawful Good =

@@ -2,4 +2,3 @@ pub mod Sounds
 pub mod Dues
 pub mod Laws
 pub mod Asks
-pub mod Turns

@@ -1,39 +1,73 @@
--- What each step asks, as the program groups the steps: what is taken or sent byte by byte with no memory changed, and what is not.
+-- What the program asks of a step, and what that says of the flow.
 -- Assumes nothing.
-use Prim.Native.Nat.{ℕ}
-use Rattle.command.specs.declared.opcode.Opcode.{Opcode}
+use Prim.Native.Nat.{ℕ, _<_}
+use mathlib.Core.Path.{_≡_}
+use mathlib.Core.List.{List}
+use Rattle.machine.specs.Does.{sends, runs}
+use Rattle.machine.specs.Steps.{Shown}
+use Rattle.command_execution.specs.Memories.{Memories}
 use Rattle.uartboot_flow.specs.declared.step.Step.{Step}
+use Rattle.uartboot_flow.specs.declared.step.Moved.{Moved}
 use Rattle.uartboot_flow.specs.declared.step.Step.the-variants.{Greeting, Header, Command, Answer, Refusal, Running}
-use Rattle.uartboot_flow.specs.declared.step.CommandStep.{CommandStep}
-use Rattle.uartboot_flow.specs.declared.step.CommandStep.the-variants.{SendAck, TakePayload, SendPayloadAck, SendCrcLow, SendCrcHigh, TakeGo}
-use Rattle.uartboot_flow.specs.declared.step.AnswerStep.{AnswerStep}
+use Rattle.uartboot_flow.specs.declared.step.CommandStep.the-variants.{SendAck, TakePayload, SendCrcLow, SendCrcHigh, TakeGo}
 use Rattle.uartboot_flow.specs.declared.step.AnswerStep.the-variants as a
 use Rattle.uartboot_flow.specs.declared.ask.Ask.{Ask}
 use Rattle.uartboot_flow.specs.declared.ask.Ask.the-variants.{Take, Send, Halt}
+use Rattle.uartboot_flow.specs.declared.ask.Taking.{Taking}
 use Rattle.uartboot_flow.specs.declared.ask.Taking.the-variants as taking
+use Rattle.uartboot_flow.specs.declared.ask.Sending.{Sending}
 use Rattle.uartboot_flow.specs.declared.ask.Sending.the-variants as sending
+use Rattle.uartboot_flow.specs.Flow.{goes, doesAt}
+use Rattle.uartboot_flow.specs.Sound.{Ready}
+use Rattle.uartboot_flow.specs.State.{state}
+use Rattle.uartboot_flow.specs.Device.{device}
 
-abbrev pub askCommand : Opcode → (size : ℕ) → CommandStep → Ask
-askCommand opcode size SendAck = Send (sending.Acceptance opcode size)
-askCommand opcode size (TakePayload place) = Take (taking.Payload opcode size place)
-askCommand opcode size SendPayloadAck = Send sending.Byte
-askCommand opcode size SendCrcLow = Send (sending.Crc opcode size)
-askCommand opcode size SendCrcHigh = Send sending.Byte
-askCommand opcode size TakeGo = Take (taking.Go opcode size)
+-- the step that takes so
+abbrev pub stepOf : Taking → Step
+stepOf (taking.Header step) = Header step
+stepOf (taking.Payload opcode size place) = Command opcode size (TakePayload place)
+stepOf (taking.Go opcode size) = Command opcode size TakeGo
+stepOf (taking.AnswerGo opcode size) = Answer opcode size a.TakeGo
+stepOf (taking.HostCrcLow opcode size) = Answer opcode size a.TakeCrcLow
+stepOf (taking.HostCrcHigh opcode size low) = Answer opcode size (a.TakeCrcHigh low)
 
-abbrev pub askAnswer : Opcode → (size : ℕ) → AnswerStep → Ask
-askAnswer opcode size a.SendLengthLow = Send sending.Byte
-askAnswer opcode size a.SendLengthHigh = Send sending.Byte
-askAnswer opcode size a.TakeGo = Take taking.Byte
-askAnswer opcode size (a.SendAnswer place) = Send (sending.Answer opcode size place)
-askAnswer opcode size a.TakeCrcLow = Take taking.Byte
-askAnswer opcode size (a.TakeCrcHigh low) = Take taking.Byte
-askAnswer opcode size a.SendAck = Send sending.Byte
+-- a step sends a byte, and then another step follows, whatever the memories and the last reason are
+pub record SendsOn (step : Step) (byte : ℕ) (next : Step) : Type 0 where
+  pub is : (reason : ℕ) (m : Memories) → doesAt reason m step ≡ sends byte (goes reason m next)
 
-abbrev pub askOf : Step → Ask
-askOf (Greeting place) = Send sending.Byte
-askOf (Header step) = Take taking.Byte
-askOf (Command opcode size step) = askCommand opcode size step
-askOf (Answer opcode size step) = askAnswer opcode size step
-askOf Refusal = Send sending.Byte
-askOf (Running address) = Halt
+pub record Halts (step : Step) : Type 0 where
+  pub is : (reason : ℕ) (m : Memories) → doesAt reason m step ≡ runs
+
+-- a step sends so
+abbrev pub SendsSo : Sending → Step → Type 0
+SendsSo (sending.Byte byte next) step = SendsOn step byte next
+SendsSo (sending.Acceptance opcode size) step = step ≡ Command opcode size SendAck
+SendsSo (sending.Crc opcode size) step = step ≡ Command opcode size SendCrcLow
+SendsSo (sending.CrcHigh opcode size) step = step ≡ Command opcode size SendCrcHigh
+SendsSo (sending.Answer opcode size place) step = step ≡ Answer opcode size (a.SendAnswer place)
+
+abbrev pub Asked : Ask → Step → Type 0
+Asked (Take t) step = step ≡ stepOf t
+Asked (Send t) step = SendsSo t step
+Asked Halt step = Halts step
+
+-- what a sending may rely on
+abbrev pub ReadyTo : Sending → Memories → Type 0
+ReadyTo (sending.Byte byte next) m = Unit {0}
+ReadyTo (sending.Acceptance opcode size) m = Ready (Command opcode size SendAck) m
+ReadyTo (sending.Crc opcode size) m = Ready (Command opcode size SendCrcLow) m
+ReadyTo (sending.CrcHigh opcode size) m = Ready (Command opcode size SendCrcHigh) m
+ReadyTo (sending.Answer opcode size place) m = Ready (Answer opcode size (a.SendAnswer place)) m
+
+-- what a sending sent, for each step that sends so
+pub record SentSo (x : Sending) (reason : ℕ) (m : Memories) (j : ℕ) (old : List ℕ) (moved : Moved) (m′ : Memories) (reply : List ℕ) : Type 0 where
+  pub is : (step : Step) → SendsSo x step → Shown device (state step reason m) j old (moved .count) (state (moved .step) (moved .reason) m′) reply
+
+-- two bytes tell an answer's length
+abbrev pub Short : Step → Type 0
+Short (Greeting place) = Unit {0}
+Short (Header step) = Unit {0}
+Short (Command opcode size step) = Unit {0}
+Short (Answer opcode size step) = size < 65536
+Short Refusal = Unit {0}
+Short (Running address) = Unit {0}

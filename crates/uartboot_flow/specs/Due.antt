@@ -1,10 +1,8 @@
--- How many bytes a uartboot session sends before it takes one or code runs, and the session as a machine.
+-- How many bytes a uartboot session sends before it takes one or code runs.
 -- Assumes nothing.
 use Prim.Native.Nat.{ℕ, suc, _-_}
 use mathlib.Core.Bool.{cond}
 use lib.Dec.{eqb}
-use Rattle.machine.specs.Machine.{Machine}
-use Rattle.machine.specs.Does.{lineOf}
 use Rattle.command.specs.declared.opcode.Opcode.{Opcode}
 use Rattle.command_execution.specs.declared.Ending.{Ending}
 use Rattle.command_execution.specs.declared.Ending.the-variants.{Silent, Answers, Runs, Failed}
@@ -17,7 +15,7 @@ use Rattle.uartboot_flow.specs.declared.step.CommandStep.the-variants.{S
 use Rattle.uartboot_flow.specs.declared.step.AnswerStep.{AnswerStep}
 use Rattle.uartboot_flow.specs.declared.step.AnswerStep.the-variants as a
 use Rattle.uartboot_flow.specs.State.{State}
-use Rattle.uartboot_flow.specs.Flow.{greetingLength, does}
+use Rattle.uartboot_flow.specs.Flow.{greetingLength}
 
 -- after an execution that ended so: the greeting, an answer's length, nothing, or 15 and the greeting
 abbrev pub dueBehind : Ending → ℕ
@@ -53,6 +51,3 @@ dueAt m (Running address) = 0
 
 abbrev pub due : State → ℕ
 due s = dueAt (s .mem) (s .step)
-
-abbrev pub device : Machine ℕ State
-device = lineOf does due

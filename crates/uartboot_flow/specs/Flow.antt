@@ -10,7 +10,7 @@ use lib.ListN.{length, take, getD, set}
 use Rattle.wire.specs.Line.{soh, ack, nak}
 use Rattle.crc.specs.Rule.{rule16}
 use Rattle.crc.specs.Crc.{crcOf}
-use Rattle.machine.specs.Does.{Does, takes, sends, runs, tookOf, sentOf}
+use Rattle.machine.specs.Does.{Does, takes, sends, runs, tookOf}
 use Rattle.command.specs.declared.opcode.Opcode.{Opcode}
 use Rattle.command.specs.declared.opcode.Lookup.{Lookup}
 use Rattle.command.specs.declared.opcode.Lookup.the-variants.{Known, Unknown}
@@ -119,10 +119,13 @@ abbrev pub showed : Opcode → (size count : ℕ) → Step
 showed opcode size count = Answer opcode size (cond (ltb count size) (a.SendAnswer count) a.TakeCrcLow)
 
 module _ (reason : ℕ) (m : Memories) where
-  -- the header's 06 and step 2; step 3 follows the 06 of a command without payload, and else the host's 06
+  -- after the header's 06: step 3 for a command without payload, and else its payload
+  abbrev pub accepted : Opcode → (size : ℕ) → State
+  accepted opcode size = cond (eqb size 0) (executes reason m opcode size) (goes reason m (Command opcode size (TakePayload 0)))
+
+  -- the header's 06 and step 2; step 3 follows the host's 06
   abbrev pub command : Opcode → (size : ℕ) → CommandStep → Does ℕ State
-  command opcode size SendAck =
-      sends ack (cond (eqb size 0) (executes reason m opcode size) (goes reason m (Command opcode size (TakePayload 0))))
+  command opcode size SendAck = sends ack (accepted opcode size)
   command opcode size (TakePayload place) = takes (λ byte. arrived reason (stored place byte m) opcode size (place + 1))
   command opcode size SendPayloadAck = sends ack (goes reason m (Command opcode size SendCrcLow))
   command opcode size SendCrcLow = sends (crc16 size (m .work) % 256) (goes reason m (Command opcode size SendCrcHigh))
@@ -159,7 +162,3 @@ does s = doesAt (s .reason) (s .mem) (s .step)
 -- the state once a byte is taken
 abbrev pub took : State → (byte : ℕ) → State
 took s byte = tookOf (does s) s byte
-
--- the state once a byte is sent
-abbrev pub sent : State → State
-sent s = sentOf (does s) s

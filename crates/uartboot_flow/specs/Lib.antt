@@ -1,7 +1,8 @@
 pub mod State
 pub mod Flow
 pub mod Due
+pub mod Device
 pub mod Fresh
-pub mod Ask
 pub mod Sound
+pub mod Ask
 pub mod Gives

@@ -51,12 +51,3 @@ pub record Ready (step : Step) (m : Memories) : Type 0 where
 
 abbrev pub Sound : State → Type 0
 Sound s = Ready (s .step) (s .mem)
-
--- payload and answer lie in a work buffer of `work` bytes
-abbrev pub InWork : Step → (work : ℕ) → Type 0
-InWork (Greeting place) work = Unit {0}
-InWork (Header step) work = Unit {0}
-InWork (Command opcode size step) work = size ≤ work
-InWork (Answer opcode size step) work = size ≤ work
-InWork Refusal work = Unit {0}
-InWork (Running address) work = Unit {0}

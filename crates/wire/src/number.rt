@@ -1,7 +1,7 @@
 // Little-endian numbers of 2 and 4 bytes.
 ghost use mathlib.Core.Path.{_≡_};
 ghost use mathlib.Core.List.{[], _∷_};
-ghost use Prim.Native.Nat.{_+_, _≤_};
+ghost use Prim.Native.Nat.{_+_, _*_, _≤_};
 ghost use lib.ListN.{length};
 ghost use Rattle.wire.specs.Number.{numberOf, numberAt, readAt};
 use crate::range::Place;
@@ -67,4 +67,11 @@ pub fn read32(bytes: &[u8], place: usize) -> Reading
         return Reading::Missing;
     };
     Reading::Number(number32_at(bytes, at))
+}
+
+// The number that a low part, any number where it comes from a record, and a high byte make.
+pub fn pair(low: u32, high: u8) -> usize
+    ensures { λ r. ⌜ r ≡ low + 256 * high ⌝ }
+{
+    (low as usize) + 256 * (high as usize)
 }

@@ -4,7 +4,7 @@ use mathlib.Core.Path.{refl, sym, _∙_}
 use native.Mathlib.Omega.{arith}
 use borrow.Author.Tests.{not-true, not-false}
 use Rattle.wire.proofs.Lengths.{ram-bounds}
-use Rattle.rom.proofs.Records.{decoded-sound}
+use Rattle.rom_record.proofs.Records.{decoded-sound}
 use Rattle.rom.proofs.Calls.{bad-length, bad-record, good}
 use borrow.Author.Needs.{needs}
 use Rattle.rom.proofs.session.call.Statement.{statement}

@@ -1,20 +1,20 @@
 -- `uartboot::session::act`: each turn of the loop is takes or sends of the machine, and where it returns the machine has stopped.
 -- Assumes nothing.
-use Prim.Native.Nat.{_+_, _-_}
-use mathlib.Core.Path.{sym, _∙_}
-use native.Mathlib.Omega.{arith}
-use lib.ListN.{length}
-use borrow.Author.Needs.{needs}
-use Rattle.machine.proofs.Repeats.{takes-fit, sends-fit, sends-length}
 use Rattle.command_execution.specs.Memories.{memories}
-use Rattle.uartboot_flow.specs.Due.{device}
-use Rattle.uartboot.proofs.Turns.{Turn, begins, took-turn, sent-turn, hungry, choked, halts}
+use Rattle.uartboot.proofs.Turns.{At, begins, short, ready-to-take, taken, hungry, ready-to-send, shown, choked, halts}
+use Rattle.uartboot_flow.proofs.Laws.{held}
+use Rattle.uartboot_flow.specs.Due.{due}
+use Rattle.uartboot_flow.specs.Flow.{does}
+use Rattle.machine.proofs.Turns.{took-turn, took-fits, took-less, sent-turn, sent-fits, sent-less}
+use Rattle.machine.specs.Lawful.{Any}
+use borrow.Author.Needs.{needs}
+use lib.ListN.{length}
+use Prim.Native.Nat.{_+_, _-_}
 use Rattle.uartboot.proofs.session.act.Statement.{statement}
 use Rattle.uartboot.proofs.session.act.Tie as tie
 
 abbrev Inv-loop : tie.InvT-loop
-Inv-loop reason input reply₀ ram₀ flash₀ work₀ step₀ noted₀ i₀ j₀ reply ram flash work step noted i j =
-    Turn step₀ noted₀ (memories ram₀ flash₀ work₀) input reply₀ step noted (memories ram flash work) reply i j
+Inv-loop reason input reply₀ ram₀ flash₀ work₀ step₀ noted₀ i₀ j₀ reply ram flash work step noted i j = At step₀ noted₀ (memories ram₀ flash₀ work₀) input reply₀ step noted (memories ram flash work) reply i j
 
 abbrev μ-loop : tie.MeasureT-loop
 μ-loop reason input reply₀ ram₀ flash₀ work₀ step₀ noted₀ i₀ j₀ reply ram flash work step noted i j = length input - i + (length reply - j)
@@ -23,7 +23,7 @@ loop-holds : tie.Need-loop-holds Inv-loop μ-loop
 loop-holds c = begins (c .before .before .before .before .before .pre)
 
 ask-of-requires : tie.Need-ask-of-requires Inv-loop μ-loop
-ask-of-requires c κs = search needs
+ask-of-requires c κs = short (c .loop .inv)
 
 enum-known-taking : tie.Need-enum-known-taking Inv-loop μ-loop
 enum-known-taking c = search needs
@@ -44,23 +44,19 @@ same-length-4 : tie.Need-same-length-4 Inv-loop μ-loop
 same-length-4 c = c .before .before .before .before .before .before .loop .inv .keeps .same .same-work
 
 returns : tie.Need-returns Inv-loop μ-loop
-returns c =
-    rw (c .stopped .ensures)
-    (hungry (c .before .before .before .before .before .before .loop .inv) _ (sym (c .before .before .before .before .before .ask-of .ensures) ∙ c .before .before .before .taking .given .1) (c .before .if1 .taken))
+returns c = rw (c .stopped .ensures) (hungry (c .before .before .before .before .before .before .loop .inv) _ (c .before .before .before .before .before .ask-of .ensures) _ (c .before .before .before .taking .given .1) (c .before .if1 .taken))
 
 take-requires : tie.Need-take-requires Inv-loop μ-loop
-take-requires c κs = (c .before .before .before .before .before .before .before .before .loop .inv .keeps .ready, (sym (c .before .before .before .before .before .before .before .ask-of .ensures) ∙ c .before .before .before .before .before .taking .given .1, c .before .before .before .if1 .left))
+take-requires c κs = (ready-to-take (c .before .before .before .before .before .before .before .before .loop .inv) _ (c .before .before .before .before .before .before .before .ask-of .ensures) _ (c .before .before .before .before .before .taking .given .1), c .before .before .before .if1 .left)
 
 advance-requires : tie.Need-advance-requires Inv-loop μ-loop
-advance-requires c κs = takes-fit device (c .before .before .before .before .before .before .take .ensures .takes) (c .before .before .before .before .before .before .before .before .before .before .before .before .before .before .before .loop .inv .reached .taken-fits)
+advance-requires c κs = took-fits does due (held _ Any) (c .before .before .before .before .before .before .before .before .before .before .before .before .before .before .before .loop .inv) (taken (c .before .before .before .before .before .before .before .before .before .before .before .before .before .before .before .loop .inv) _ (c .before .before .before .before .before .before .before .before .before .before .before .before .before .before .ask-of .ensures) _ (c .before .before .before .before .before .before .before .before .before .before .before .before .taking .given .1) (c .before .before .before .before .before .before .take .ensures))
 
 loop-less : tie.Need-loop-less Inv-loop μ-loop
-loop-less c =
-    let h = c .before .before .before .before .before .before .before .take .ensures in
-    omega (arith, c .advance .ensures, h .some, takes-fit device (h .takes) (c .before .before .before .before .before .before .before .before .before .before .before .before .before .before .before .before .loop .inv .reached .taken-fits))
+loop-less c = rw (c .advance .ensures) (took-less does due (held _ Any) (c .before .before .before .before .before .before .before .before .before .before .before .before .before .before .before .before .loop .inv) (taken (c .before .before .before .before .before .before .before .before .before .before .before .before .before .before .before .before .loop .inv) _ (c .before .before .before .before .before .before .before .before .before .before .before .before .before .before .before .ask-of .ensures) _ (c .before .before .before .before .before .before .before .before .before .before .before .before .before .taking .given .1) (c .before .before .before .before .before .before .before .take .ensures)))
 
 loop-again : tie.Need-loop-again Inv-loop μ-loop
-loop-again c = rw (c .advance .ensures) (took-turn (c .before .before .before .before .before .before .before .before .before .before .before .before .before .before .before .before .loop .inv) (c .before .before .before .before .before .before .before .take .ensures))
+loop-again c = rw (c .advance .ensures) (took-turn does due (held _ Any) (c .before .before .before .before .before .before .before .before .before .before .before .before .before .before .before .before .loop .inv) (taken (c .before .before .before .before .before .before .before .before .before .before .before .before .before .before .before .before .loop .inv) _ (c .before .before .before .before .before .before .before .before .before .before .before .before .before .before .before .ask-of .ensures) _ (c .before .before .before .before .before .before .before .before .before .before .before .before .before .taking .given .1) (c .before .before .before .before .before .before .before .take .ensures)))
 
 enum-known-sending : tie.Need-enum-known-sending Inv-loop μ-loop
 enum-known-sending c = search needs
@@ -81,24 +77,19 @@ same-length-8 : tie.Need-same-length-8 Inv-loop μ-loop
 same-length-8 c = c .before .before .before .before .before .before .loop .inv .keeps .same .same-work
 
 returns-2 : tie.Need-returns-2 Inv-loop μ-loop
-returns-2 c =
-    rw (c .stopped2 .ensures)
-    (choked (c .before .before .before .before .before .before .loop .inv) _ (sym (c .before .before .before .before .before .ask-of .ensures) ∙ c .before .before .before .sending .given .1) (c .before .if2 .taken))
+returns-2 c = rw (c .stopped2 .ensures) (choked (c .before .before .before .before .before .before .loop .inv) _ (c .before .before .before .before .before .ask-of .ensures) _ (c .before .before .before .sending .given .1) (c .before .if2 .taken))
 
 send-requires : tie.Need-send-requires Inv-loop μ-loop
-send-requires c κs = (c .before .before .before .before .before .before .before .before .before .loop .inv .keeps .ready, (sym (c .before .before .before .before .before .before .before .before .ask-of .ensures) ∙ c .before .before .before .before .before .before .sending .given .1, c .before .before .before .before .if2 .left))
+send-requires c κs = (ready-to-send (c .before .before .before .before .before .before .before .before .before .loop .inv) _ (c .before .before .before .before .before .before .before .before .ask-of .ensures) _ (c .before .before .before .before .before .before .sending .given .1), c .before .before .before .before .if2 .left)
 
 advance-requires-2 : tie.Need-advance-requires-2 Inv-loop μ-loop
-advance-requires-2 c κs =
-    sends-fit device (c .before .before .before .before .before .before .before .before .send .ensures .sends) (c .before .before .before .before .before .before .before .before .before .before .before .before .before .before .before .before .before .before .loop .inv .reached .sent-fits)
+advance-requires-2 c κs = sent-fits does due (held _ Any) (c .before .before .before .before .before .before .before .before .before .before .before .before .before .before .before .before .before .before .loop .inv) (shown (c .before .before .before .before .before .before .before .before .before .before .before .before .before .before .before .before .before .before .loop .inv) _ (c .before .before .before .before .before .before .before .before .before .before .before .before .before .before .before .before .before .ask-of .ensures) _ (c .before .before .before .before .before .before .before .before .before .before .before .before .before .before .before .sending .given .1) (c .before .before .before .before .before .before .before .before .send .ensures))
 
 loop-less-2 : tie.Need-loop-less-2 Inv-loop μ-loop
-loop-less-2 c =
-    let h = c .before .before .before .before .before .before .before .before .before .send .ensures in
-    omega (arith, c .advance2 .ensures, h .some, sends-fit device (h .sends) (c .before .before .before .before .before .before .before .before .before .before .before .before .before .before .before .before .before .before .before .loop .inv .reached .sent-fits), sends-length device (h .sends))
+loop-less-2 c = rw (c .advance2 .ensures) (sent-less does due (held _ Any) (c .before .before .before .before .before .before .before .before .before .before .before .before .before .before .before .before .before .before .before .loop .inv) (shown (c .before .before .before .before .before .before .before .before .before .before .before .before .before .before .before .before .before .before .before .loop .inv) _ (c .before .before .before .before .before .before .before .before .before .before .before .before .before .before .before .before .before .before .ask-of .ensures) _ (c .before .before .before .before .before .before .before .before .before .before .before .before .before .before .before .before .sending .given .1) (c .before .before .before .before .before .before .before .before .before .send .ensures)))
 
 loop-again-2 : tie.Need-loop-again-2 Inv-loop μ-loop
-loop-again-2 c = rw (c .advance2 .ensures) (sent-turn (c .before .before .before .before .before .before .before .before .before .before .before .before .before .before .before .before .before .before .before .loop .inv) (c .before .before .before .before .before .before .before .before .before .send .ensures))
+loop-again-2 c = rw (c .advance2 .ensures) (sent-turn does due (held _ Any) (c .before .before .before .before .before .before .before .before .before .before .before .before .before .before .before .before .before .before .before .loop .inv) (shown (c .before .before .before .before .before .before .before .before .before .before .before .before .before .before .before .before .before .before .before .loop .inv) _ (c .before .before .before .before .before .before .before .before .before .before .before .before .before .before .before .before .before .before .ask-of .ensures) _ (c .before .before .before .before .before .before .before .before .before .before .before .before .before .before .before .before .sending .given .1) (c .before .before .before .before .before .before .before .before .before .send .ensures)))
 
 enum-told : tie.Need-enum-told Inv-loop μ-loop
 enum-told c = search needs
@@ -119,8 +110,7 @@ same-length-12 : tie.Need-same-length-12 Inv-loop μ-loop
 same-length-12 c = c .before .before .before .before .loop .inv .keeps .same .same-work
 
 returns-3 : tie.Need-returns-3 Inv-loop μ-loop
-returns-3 c =
-    rw (c .stopped3 .ensures) (halts (c .before .before .before .before .loop .inv) (sym (c .before .before .before .ask-of .ensures) ∙ c .before .enum-told .given .1))
+returns-3 c = rw (c .stopped3 .ensures) (halts (c .before .before .before .before .loop .inv) _ (c .before .before .before .ask-of .ensures) (c .before .enum-told .given .1))
 
 pub act-spec : {M : Type 1} → statement M
 act-spec =

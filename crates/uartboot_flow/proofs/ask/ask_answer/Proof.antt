@@ -1,5 +1,6 @@
 -- `uartboot_flow::ask::ask_answer`: step by step.
 -- Assumes nothing.
+use mathlib.Core.Path.{refl}
 use borrow.Author.Needs.{needs}
 use Rattle.uartboot_flow.proofs.ask.ask_answer.Statement.{statement}
 use Rattle.uartboot_flow.proofs.ask.ask_answer.Tie as tie
@@ -7,8 +8,20 @@ use Rattle.uartboot_flow.proofs.ask.ask_answer.Tie as tie
 enum-told : tie.Need-enum-told
 enum-told c = search needs
 
+cast-say : tie.Need-cast-say
+cast-say c = search needs
+
+say-requires : tie.Need-say-requires
+say-requires c κs = search needs
+
 enum-told-2 : tie.Need-enum-told-2
 enum-told-2 c = search needs
+
+cast-say-2 : tie.Need-cast-say-2
+cast-say-2 c = search needs
+
+say-requires-2 : tie.Need-say-requires-2
+say-requires-2 c κs = search needs
 
 enum-told-3 : tie.Need-enum-told-3
 enum-told-3 c = search needs
@@ -19,44 +32,48 @@ enum-known-step c = search needs
 enum-told-4 : tie.Need-enum-told-4
 enum-told-4 c = search needs
 
+enum-known-step-2 : tie.Need-enum-known-step-2
+enum-known-step-2 c = search needs
+
 enum-told-5 : tie.Need-enum-told-5
 enum-told-5 c = search needs
 
-enum-told-6 : tie.Need-enum-told-6
-enum-told-6 c = search needs
-
 returns : tie.Need-returns
-returns c = simp (c .enum-told .given .1)
+returns c = rw (c .say .ensures, c .before .enum-told .given .1) (record { is = λ reason m. refl })
 
 returns-2 : tie.Need-returns-2
-returns-2 c = simp (c .enum-told2 .given .1)
+returns-2 c = rw (c .say2 .ensures, c .before .enum-told2 .given .1) (record { is = λ reason m. refl })
 
 returns-3 : tie.Need-returns-3
-returns-3 c = simp (c .enum-told3 .given .1)
+returns-3 c = search needs
 
 returns-4 : tie.Need-returns-4
-returns-4 c = simp (c .before .step .given .1)
+returns-4 c = search needs
 
 returns-5 : tie.Need-returns-5
-returns-5 c = simp (c .enum-told4 .given .1)
+returns-5 c = search needs
 
 returns-6 : tie.Need-returns-6
-returns-6 c = simp (c .enum-told5 .given .1)
+returns-6 c = search needs
 
 returns-7 : tie.Need-returns-7
-returns-7 c = simp (c .enum-told6 .given .1)
+returns-7 c = rw (c .enum-told5 .given .1) (record { is = λ reason m. refl })
 
 pub ask-answer-spec : {M : Type 1} → statement M
 ask-answer-spec =
     tie.close
     (tie.spec
     enum-told
+    cast-say
+    say-requires
     enum-told-2
+    cast-say-2
+    say-requires-2
     enum-told-3
     enum-known-step
     enum-told-4
+    enum-known-step-2
     enum-told-5
-    enum-told-6
     returns
     returns-2
     returns-3

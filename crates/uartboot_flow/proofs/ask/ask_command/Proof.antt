@@ -1,5 +1,6 @@
 -- `uartboot_flow::ask::ask_command`: step by step.
 -- Assumes nothing.
+use mathlib.Core.Path.{refl}
 use borrow.Author.Needs.{needs}
 use Rattle.uartboot_flow.proofs.ask.ask_command.Statement.{statement}
 use Rattle.uartboot_flow.proofs.ask.ask_command.Tie as tie
@@ -23,22 +24,22 @@ enum-told-5 : tie.Need-enum-told-5
 enum-told-5 c = search needs
 
 returns : tie.Need-returns
-returns c = simp (c .enum-told .given .1)
+returns c = search needs
 
 returns-2 : tie.Need-returns-2
-returns-2 c = simp (c .before .step .given .1)
+returns-2 c = search needs
 
 returns-3 : tie.Need-returns-3
-returns-3 c = simp (c .enum-told2 .given .1)
+returns-3 c = rw (c .enum-told2 .given .1) (record { is = λ reason m. refl })
 
 returns-4 : tie.Need-returns-4
-returns-4 c = simp (c .enum-told3 .given .1)
+returns-4 c = search needs
 
 returns-5 : tie.Need-returns-5
-returns-5 c = simp (c .enum-told4 .given .1)
+returns-5 c = search needs
 
 returns-6 : tie.Need-returns-6
-returns-6 c = simp (c .enum-told5 .given .1)
+returns-6 c = search needs
 
 pub ask-command-spec : {M : Type 1} → statement M
 ask-command-spec =

@@ -1,0 +1,23 @@
+use borrow.Author.Tests.{eq-eqb, ne-eqb}
+use borrow.Author.Needs.{needs}
+use Rattle.rom_flow.proofs.header.head.Statement.{statement}
+use Rattle.rom_flow.proofs.header.head.Tie as tie
+use Rattle.rom_flow.proofs.header.head.Reads as reads
+use Rattle.rom_flow.proofs.header.head.Lts as lts
+use Rattle.rom_flow.proofs.header.judge.Reads as judge-reads
+use Rattle.rom_flow.proofs.header.zero_length.Reads as zero-length-reads
+
+zero-length-requires : tie.Need-zero-length-requires
+zero-length-requires c κs = search needs
+
+judge-requires : tie.Need-judge-requires
+judge-requires c κs = search needs
+
+returns : tie.Need-returns
+returns c = record { is = λ ram e. simp (c .zero-length .ensures .is ram e, eq-eqb _ _ (c .before .if1 .taken)) }
+
+returns-2 : tie.Need-returns-2
+returns-2 c = record { is = λ ram e. simp (c .judge .ensures .is (c .before .before .args .kind) .is ram e, ne-eqb _ _ (c .before .if1 .left)) }
+
+pub head-spec : {M : Type 1} → statement M
+head-spec = tie.close (tie.spec zero-length-requires judge-requires returns returns-2)

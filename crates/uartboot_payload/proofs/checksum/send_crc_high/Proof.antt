@@ -1,0 +1,25 @@
+-- `uartboot_payload::checksum::send_crc_high`: one store is one send.
+-- Assumes nothing.
+use Rattle.uartboot_payload.proofs.Checksums.{high-shown}
+use borrow.Author.Needs.{needs}
+use Rattle.uartboot_payload.proofs.checksum.send_crc_high.Statement.{statement}
+use Rattle.uartboot_payload.proofs.checksum.send_crc_high.Tie as tie
+
+crc-of-requires : tie.Need-crc-of-requires
+crc-of-requires c κs = search needs
+
+cast-reply : tie.Need-cast-reply
+cast-reply c = search needs
+
+slice-write-reply : tie.Need-slice-write-reply
+slice-write-reply c = search needs
+
+same-length : tie.Need-same-length
+same-length c = search needs
+
+returns : tie.Need-returns
+returns c = record { is = λ ram flash. high-shown _ _ _ _ _ (c .crc-of .ensures) _ _ (c .before .before .before .pre .1) }
+
+pub send-crc-high-spec : {M : Type 1} → statement M
+send-crc-high-spec =
+    tie.close (tie.spec crc-of-requires cast-reply slice-write-reply same-length returns)
