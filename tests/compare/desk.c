@@ -1,6 +1,6 @@
 #include "desk.h"
 #include "lend.h"
-#include "seen.h"
+#include "met.h"
 #include "undalisho.h"
 
 #include <stdlib.h>
@@ -114,20 +114,6 @@ static void same_memories(trial *t, const desk *d)
         differ(t, "a byte beside lent memory was written");
 }
 
-static void note_seen(const desk *d, const model_report *r)
-{
-    static const seen_what phases[] = {[KIND_P] = SEEN_ROM_P, [KIND_E] = SEEN_ROM_E, [KIND_UARTBOOT] = SEEN_UARTBOOT};
-    const uint32_t *record = d->model_record;
-    seen(d->kind == KIND_UARTBOOT ? SEEN_UARTBOOT_NUMBER : SEEN_ROM_NUMBER, r->number);
-    if (r->number || !d->fresh)
-        return;
-    seen(SEEN_STANDING, r->standing);
-    seen(phases[record[WORD_KIND]], record[WORD_PHASE]);
-    seen(SEEN_REASON, record[WORD_REASON]);
-    if (record[WORD_KIND] == KIND_UARTBOOT && (record[WORD_PHASE] == 5 || record[WORD_PHASE] == 10))
-        seen(SEEN_OPCODE, record[WORD_OPCODE]);
-}
-
 /* Room holds something that a call can't have left there by chance at every place. */
 static void mark_room(uint8_t *library, uint8_t *model, size_t room, uint64_t salt)
 {
@@ -142,6 +128,7 @@ model_report desk_call(trial *t, desk *d, const uint8_t *input, size_t shown, si
     if (shown)
         memcpy(piece, input, shown);
     mark_room(space, model_reply, room, t->calls++);
+    meeting met = meeting_before(d, input, shown, room);
     und_report got = call_library(d, piece, shown, space, room);
 
     model_line line = {input, shown, 0, model_reply, room, 0};
@@ -149,7 +136,7 @@ model_report desk_call(trial *t, desk *d, const uint8_t *input, size_t shown, si
                                                  : model_rom_call(d->model_record, &line, &d->model);
     tell(t, "call: shown %zu, room %zu: number %u, standing %u, taken %zu, sent %zu, phase %u, reason %u\n", shown, room,
          want.number, want.standing, want.taken, want.sent, d->model_record[WORD_PHASE], d->model_record[WORD_REASON]);
-    note_seen(d, &want);
+    meeting_after(&met, d, &want);
     same_number(t, "number", got.number, want.number);
     same_number(t, "standing", got.standing, want.standing);
     same_number(t, "taken", got.taken, want.taken);

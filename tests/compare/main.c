@@ -24,8 +24,8 @@ static const case_kind kinds[] = {
     {"frame", 4, frame_case},
     {"ROM stream", 8, rom_stream_case},
     {"uartboot stream", 24, uartboot_stream_case},
-    {"ROM record", 10, rom_record_case},
-    {"uartboot record", 20, uartboot_record_case},
+    {"ROM record", 16, rom_record_case},
+    {"uartboot record", 28, uartboot_record_case},
     {"length", 2, length_case},
 };
 
@@ -169,6 +169,7 @@ int main(int argc, char **argv)
 {
     if (!figures_hold())
         return 1;
+    seen_anew();
     watch();
     if (argc == 3 && strcmp(argv[1], "seed") == 0)
         return run_seed(strtoull(argv[2], NULL, 10), true) ? 0 : 1;

@@ -1,6 +1,5 @@
 #include "records.h"
 #include "fill.h"
-#include "seen.h"
 #include "streams.h"
 
 #include <string.h>
@@ -15,7 +14,7 @@ uint32_t places_of(const uint32_t record[WORDS])
     return many ? record[WORD_LENGTH] : 1;
 }
 
-static uint32_t running_phase(uint32_t kind)
+uint32_t running_phase(uint32_t kind)
 {
     return kind == KIND_UARTBOOT ? 19 : 11;
 }
@@ -42,12 +41,21 @@ static uint32_t draw_place(trial *t, const setting *s)
     return how < 5 ? PICK_OF(t->c, edges) : any_number(t, &s->contents);
 }
 
-/* A command, with its payload. */
+static const uint8_t opcodes[] = {OP_WRITE, OP_READ, OP_COPY, OP_ERASE, OP_RUN, OP_READ_QSPI, OP_VERSION, OP_CHIP_ERASE, OP_DIRECT_WRITE};
+
+/* A command, with its payload: sometimes one with a count that is refused, one as long as the work buffer or longer, or another
+   command's. */
 static void draw_command(trial *t, setting *s)
 {
     static planned p;
+    uint64_t most = s->contents.work_length, ends[] = {most, most + 1};
     plan_command(t, &p, &s->contents);
-    s->record[WORD_OPCODE] = p.opcode;
+    uint32_t how = pick(t->c, 16);
+    if (how == 12 || how == 13)
+        plan_bad_count(t, &p, &s->contents);
+    if ((how == 10 || how == 11 || how == 14) && model_has_length(p.opcode, most))
+        p.length = (uint32_t)PICK_OF(t->c, ends);
+    s->record[WORD_OPCODE] = how == 15 ? PICK_OF(t->c, opcodes) : p.opcode;
     s->record[WORD_LENGTH] = p.length;
     if (p.length <= s->contents.work_length)
         memcpy(s->contents.work, p.payload, p.length);
@@ -56,30 +64,31 @@ static void draw_command(trial *t, setting *s)
 /* The length of an answer or a code: 1 to 24, or at the ends of what it may have. */
 static void draw_length(trial *t, setting *s, uint64_t most)
 {
-    uint64_t edges[] = {1, most, 7, 256};
-    uint64_t length = once_in(t->c, 4) ? near_edges(t->c, edges, sizeof edges / sizeof *edges) : 1 + pick(t->c, 24);
+    uint64_t edges[] = {1, most, 7, 256}, ends[] = {most, 0, most + 1};
+    uint32_t how = pick(t->c, 6);
+    uint64_t length = how < 3   ? 1 + pick(t->c, 24)
+                      : how < 5 ? PICK_OF(t->c, ends)
+                                : near_edges(t->c, edges, sizeof edges / sizeof *edges);
     s->record[WORD_LENGTH] = (uint32_t)length;
 }
 
 /* An answer, which may be longer than the memory that it came from. */
 static void draw_answer(trial *t, setting *s)
 {
-    static const uint8_t opcodes[] = {OP_READ, OP_READ_QSPI, OP_VERSION};
-    s->record[WORD_OPCODE] = PICK_OF(t->c, opcodes);
+    static const uint8_t answering[] = {OP_READ, OP_READ_QSPI, OP_VERSION};
+    s->record[WORD_OPCODE] = PICK_OF(t->c, answering);
     draw_length(t, s, s->contents.work_length);
 }
 
-/* Often Run; else another command, a number that only ends in Run's byte, or what was drawn. */
+/* Often Run; else any command, a number that only ends in Run's byte, or what was drawn. */
 static void draw_run(trial *t, setting *s)
 {
-    static const uint8_t others[] = {OP_WRITE,     OP_READ,    OP_COPY,       OP_ERASE,
-                                     OP_READ_QSPI, OP_VERSION, OP_CHIP_ERASE, OP_DIRECT_WRITE};
     static const uint32_t nearly[] = {0x105, 0x10005, 0x80000005};
     uint32_t how = pick(t->c, 8);
     if (how < 4)
         s->record[WORD_OPCODE] = OP_RUN;
     else if (how < 7)
-        s->record[WORD_OPCODE] = how < 6 ? PICK_OF(t->c, others) : PICK_OF(t->c, nearly);
+        s->record[WORD_OPCODE] = how < 6 ? PICK_OF(t->c, opcodes) : PICK_OF(t->c, nearly);
 }
 
 /* Often in RAM; else at its ends, beside them, near 2^32, or what was drawn. */
@@ -141,57 +150,4 @@ bool is_accepted(const setting *s)
     model_report r = s->kind == KIND_UARTBOOT ? model_uartboot_call(record, &nothing, &s->contents)
                                               : model_rom_call(record, &nothing, &s->contents);
     return r.number == 0;
-}
-
-/* Whether the record would be accepted with another number in one word. */
-static bool is_accepted_with(const setting *s, int word, uint32_t number)
-{
-    setting other = *s;
-    other.record[word] = number;
-    return is_accepted(&other);
-}
-
-static void note_place(const setting *s, bool accepted)
-{
-    uint32_t kind = s->record[WORD_KIND], phase = s->record[WORD_PHASE], place = s->record[WORD_PLACE];
-    uint32_t places = places_of(s->record);
-    if (!is_accepted_with(s, WORD_PLACE, 0))
-        return;
-    if (accepted && place == 0)
-        seen(SEEN_FIRST_PLACE_P + kind, phase);
-    if (accepted && place == places - 1)
-        seen(SEEN_LAST_PLACE_P + kind, phase);
-    if (!accepted)
-        seen((place == places ? SEEN_PLACE_AT_END_P : SEEN_PLACE_BEYOND_P) + kind, phase);
-}
-
-static void note_address(const setting *s, bool accepted)
-{
-    int64_t length = (int64_t)s->contents.ram_length, byte = (int64_t)s->record[WORD_HELD] - RAM_BASE;
-    if (!is_accepted_with(s, WORD_HELD, RAM_BASE))
-        return;
-    seen_address what = byte == 0                             ? ADDRESS_FIRST
-                        : byte == length - 1                  ? ADDRESS_LAST
-                        : byte == -1                          ? ADDRESS_BEFORE
-                        : byte == length                      ? ADDRESS_BEHIND
-                        : s->record[WORD_HELD] >= 0xFFFFFFE0u ? ADDRESS_HIGHEST
-                                                              : ADDRESS_OTHER;
-    seen((accepted ? SEEN_ADDRESS_ACCEPTED_P : SEEN_ADDRESS_REFUSED_P) + s->record[WORD_KIND], what);
-}
-
-static void note_opcode(const setting *s, bool accepted)
-{
-    uint32_t opcode = s->record[WORD_OPCODE];
-    if (s->kind == KIND_UARTBOOT && is_accepted_with(s, WORD_OPCODE, OP_RUN))
-        seen(accepted ? SEEN_RUNNING_ACCEPTED : SEEN_RUNNING_REFUSED, model_known(opcode) ? opcode : 0);
-}
-
-void note_record(const setting *s)
-{
-    bool accepted = is_accepted(s);
-    note_place(s, accepted);
-    if (is_running(s->record)) {
-        note_address(s, accepted);
-        note_opcode(s, accepted);
-    }
 }

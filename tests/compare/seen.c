@@ -1,6 +1,7 @@
 #include "seen.h"
 
 #include <stdio.h>
+#include <string.h>
 
 enum { MOST = 128 };
 
@@ -12,6 +13,11 @@ void seen(seen_what what, uint32_t number)
         counts[what][number]++;
 }
 
+void seen_anew(void)
+{
+    memset(counts, 0, sizeof counts);
+}
+
 typedef struct {
     const char *name;
     int numbers[24]; /* ends with -1 */
@@ -20,6 +26,14 @@ typedef struct {
 #define PHASES_P {0, 1, 2, 3, 6, 7, 8, 9, 10, 11, -1}
 #define PHASES_E {0, 1, 2, 3, 4, 5, 6, 7, 8, 9, 10, 11, -1}
 #define PHASES_UARTBOOT {0, 1, 2, 3, 4, 5, 6, 7, 8, 9, 10, 11, 12, 13, 14, 15, 16, 17, 18, 19, -1}
+#define WITH_PAYLOAD {1, 2, 3, 4, 5, 8, 18, -1}
+#define EVERY_OPCODE {1, 2, 3, 4, 5, 8, 11, 12, 18, -1}
+#define REFUSED_14 {18, -1}
+#define REFUSED_15 {2, 3, 4, 8, -1}
+#define REFUSED_16 WITH_PAYLOAD
+#define REFUSED_17 {2, 8, -1}
+#define TAKES_CODE {6, 7, 8, 9, -1}
+#define HAS_OPCODE {5, 6, 7, 8, 9, 10, 11, 12, 13, 14, 15, 16, 17, -1}
 #define IN_RAM {ADDRESS_FIRST, ADDRESS_LAST, ADDRESS_OTHER, -1}
 #define OUTSIDE {ADDRESS_BEFORE, ADDRESS_BEHIND, ADDRESS_HIGHEST, ADDRESS_OTHER, -1}
 
@@ -36,13 +50,54 @@ static const wanted all[SEENS] = {
     [SEEN_PRODUCT_NUMBER] = {"number of a product header", {0, 3, 51, 52, -1}},
     [SEEN_COMMAND_NUMBER] = {"number of a command", {0, 11, 12, -1}},
     [SEEN_RULE] = {"rule of an image", {0, 1, 2, 3, 4, 5, 6, 7, -1}},
-    [SEEN_COMMAND_OPCODE] = {"opcode of a command", {1, 2, 3, 4, 5, 8, 11, 12, 18, -1}},
+    [SEEN_COMMAND_OPCODE] = {"opcode of a command", EVERY_OPCODE},
     [SEEN_REASON] = {"reason", {0, 11, 12, 13, 14, 15, 16, 17, 18, 19, 20, 31, 32, 33, 34, -1}},
     [SEEN_ROM_P] = {"phase of kind P", PHASES_P},
     [SEEN_ROM_E] = {"phase of kind E", PHASES_E},
     [SEEN_UARTBOOT] = {"phase of uartboot", PHASES_UARTBOOT},
     [SEEN_STANDING] = {"standing", {1, 2, 3, -1}},
-    [SEEN_OPCODE] = {"opcode accepted", {1, 2, 3, 4, 5, 8, 11, 12, 18, -1}},
+    [SEEN_OPCODE] = {"opcode accepted", EVERY_OPCODE},
+    [SEEN_HEADER_ACCEPTED] = {"an accepted header of opcode", EVERY_OPCODE},
+    [SEEN_HEADER_SHORT] = {"a header with too few bytes of opcode", WITH_PAYLOAD},
+    [SEEN_HEADER_LONG] = {"a header with too many bytes of opcode", {2, 3, 4, 5, 8, 11, 12, -1}},
+    [SEEN_HEADER_LONG_ABOVE] = {"a header with too many bytes, more than the work buffer's, of opcode", {2, 3, 4, 5, 8, 11, 12, -1}},
+    [SEEN_HEADER_ABOVE] = {"a header with more bytes than the work buffer of opcode", {1, 18, -1}},
+    [SEEN_HEADER_STRANGE] = {"a header of an unknown opcode, long or not:", {0, 1, -1}},
+    [SEEN_PAYLOAD_14] = {"a payload refused with 14 of opcode", REFUSED_14},
+    [SEEN_PAYLOAD_15] = {"a payload refused with 15 of opcode", REFUSED_15},
+    [SEEN_PAYLOAD_16] = {"a payload refused with 16 of opcode", REFUSED_16},
+    [SEEN_PAYLOAD_17] = {"a payload refused with 17 of opcode", REFUSED_17},
+    [SEEN_RAM_TO_END] = {"a range to the end of RAM of opcode", {1, 2, 3, 5, -1}},
+    [SEEN_RAM_PAST_END] = {"a range one byte past RAM of opcode", {1, 2, 3, 5, -1}},
+    [SEEN_RAM_WRAPS] = {"a range of addresses past 2^32 of opcode", {1, 2, 3, 5, -1}},
+    [SEEN_RAM_BEFORE] = {"a range from the byte before RAM of opcode", {1, 2, 3, 5, -1}},
+    [SEEN_FLASH_TO_END] = {"a range to the end of flash of opcode", {3, 4, 8, 18, -1}},
+    [SEEN_FLASH_PAST_END] = {"a range one byte past flash of opcode", {3, 4, 8, 18, -1}},
+    [SEEN_FLASH_WRAPS] = {"a range of offsets past 2^32 of opcode", {3, 4, 8, 18, -1}},
+    [SEEN_ANSWER_FILLS] = {"an answer as long as the work buffer of opcode", {2, 8, -1}},
+    [SEEN_EXECUTED] = {"an executed command of opcode", EVERY_OPCODE},
+    [SEEN_EXECUTED_GIVEN] = {"a command executed from a given record of opcode", EVERY_OPCODE},
+    [SEEN_NOT_EXECUTED] = {"a command not acknowledged of opcode", WITH_PAYLOAD},
+    [SEEN_NOT_ANSWERED] = {"an answer not acknowledged of opcode", {2, 8, 11, -1}},
+    [SEEN_AGAIN_14] = {"an altered payload refused at execution with 14 of opcode", REFUSED_14},
+    [SEEN_AGAIN_15] = {"an altered payload refused at execution with 15 of opcode", REFUSED_15},
+    [SEEN_AGAIN_16] = {"an altered payload refused at execution with 16 of opcode", REFUSED_16},
+    [SEEN_AGAIN_17] = {"an altered payload refused at execution with 17 of opcode", REFUSED_17},
+    [SEEN_GIVEN_14] = {"a given payload refused at execution with 14 of opcode", REFUSED_14},
+    [SEEN_GIVEN_15] = {"a given payload refused at execution with 15 of opcode", REFUSED_15},
+    [SEEN_GIVEN_16] = {"a given payload refused at execution with 16 of opcode", REFUSED_16},
+    [SEEN_GIVEN_17] = {"a given payload refused at execution with 17 of opcode", REFUSED_17},
+    [SEEN_ALTERED_P] = {"an altered code of kind P, phase", {7, 8, -1}},
+    [SEEN_ALTERED_E] = {"an altered code of kind E, phase", {7, 8, -1}},
+    [SEEN_ALTERED_UARTBOOT] = {"an altered work buffer, phase", {6, 7, 8, 9, 10, 11, 12, 13, 14, 15, 16, -1}},
+    [SEEN_HOST_CRC] = {"a host's CRC of class", {0, 1, 2, 3, -1}},
+    [SEEN_REASON_BEFORE_15] = {"before the 15 a reason", {11, 12, 13, 14, 15, 16, 17, 18, 19, 31, 32, 33, -1}},
+    [SEEN_REASON_REPLACED] = {"in place of another a reason", {11, 12, 13, 14, 15, 16, 17, 18, 19, 20, 31, 32, 33, 34, -1}},
+    [SEEN_REASON_KEPT] = {"a reason that success leaves, of kind", {0, 1, 2, -1}},
+    [SEEN_RUNNING_SHOWN] = {"bytes and room for running code of kind", {0, 1, 2, -1}},
+    [SEEN_WIDE_P] = {"a low byte above 255 of kind P, phase", {3, -1}},
+    [SEEN_WIDE_E] = {"a low byte above 255 of kind E, phase", {3, 5, -1}},
+    [SEEN_WIDE_UARTBOOT] = {"a low byte above 255 of uartboot, phase", {4, 16, -1}},
     [SEEN_FIRST_PLACE_P] = {"the first place of kind P, phase", PHASES_P},
     [SEEN_FIRST_PLACE_E] = {"the first place of kind E, phase", PHASES_E},
     [SEEN_FIRST_PLACE_UARTBOOT] = {"the first place of uartboot, phase", PHASES_UARTBOOT},
@@ -55,6 +110,21 @@ static const wanted all[SEENS] = {
     [SEEN_PLACE_BEYOND_P] = {"a place beyond the end of kind P, phase", PHASES_P},
     [SEEN_PLACE_BEYOND_E] = {"a place beyond the end of kind E, phase", PHASES_E},
     [SEEN_PLACE_BEYOND_UARTBOOT] = {"a place beyond the end of uartboot, phase", PHASES_UARTBOOT},
+    [SEEN_KIND_REFUSED] = {"a record refused for its kind by the session of kind", {0, 1, 2, -1}},
+    [SEEN_PHASE_REFUSED] = {"a record refused for its phase, of kind", {0, 1, 2, -1}},
+    [SEEN_PHASE_OF_E] = {"a record of kind P refused for its phase", {4, 5, -1}},
+    [SEEN_OPCODE_UNKNOWN] = {"a record refused for an unknown opcode, phase", HAS_OPCODE},
+    [SEEN_OPCODE_OTHER] = {"a record refused for another command's opcode, phase", HAS_OPCODE},
+    [SEEN_LENGTH_ZERO_P] = {"a record refused for length 0 of kind P, phase", TAKES_CODE},
+    [SEEN_LENGTH_ZERO_E] = {"a record refused for length 0 of kind E, phase", TAKES_CODE},
+    [SEEN_LENGTH_ZERO_UARTBOOT] = {"a record refused for length 0 of an answer, phase", {11, 12, 13, 14, 15, 16, 17, -1}},
+    [SEEN_LENGTH_ABOVE_P] = {"a record refused for a length above RAM of kind P, phase", TAKES_CODE},
+    [SEEN_LENGTH_ABOVE_E] = {"a record refused for a length above RAM of kind E, phase", TAKES_CODE},
+    [SEEN_LENGTH_ABOVE_UARTBOOT] = {"a record refused for a length above the work buffer, phase", HAS_OPCODE},
+    [SEEN_LENGTH_OTHER] = {"a record refused for a length of another command, phase", {5, 6, 7, 8, 9, 10, -1}},
+    [SEEN_LENGTH_MOST_P] = {"the longest code of kind P, phase", TAKES_CODE},
+    [SEEN_LENGTH_MOST_E] = {"the longest code of kind E, phase", TAKES_CODE},
+    [SEEN_LENGTH_MOST_UARTBOOT] = {"the longest payload or answer, phase", HAS_OPCODE},
     [SEEN_ADDRESS_ACCEPTED_P] = {"a running record of kind P with an address in RAM of class", IN_RAM},
     [SEEN_ADDRESS_ACCEPTED_E] = {"a running record of kind E with an address in RAM of class", IN_RAM},
     [SEEN_ADDRESS_ACCEPTED_UARTBOOT] = {"a running record of uartboot with an address in RAM of class", IN_RAM},

@@ -82,7 +82,7 @@ static void stream_case(trial *t, uint32_t kind)
     visit v = {.start.kind = kind, .start.fresh = true};
     v.start.contents = first_memories(t, kind);
     fresh(t, kind == KIND_UARTBOOT, kind, v.start.record);
-    v.alters = once_in(t->c, 5);
+    v.alters = draw_alters(t, kind);
     make_stream(t, &v, &s, 1 + pick(t->c, kind == KIND_UARTBOOT ? 8 : 4));
     visit_run(t, &v);
     free(s.bytes);
@@ -107,7 +107,7 @@ static void record_case(trial *t, uint32_t kind, uint32_t last_phase)
     note_record(&v.start);
     const uint32_t *r = v.start.record;
     tell(t, "record: %u %u %u %u %u %u %u %u\n", r[0], r[1], r[2], r[3], r[4], r[5], r[6], r[7]);
-    v.alters = once_in(t->c, 5);
+    v.alters = draw_alters(t, kind);
     if (is_accepted(&v.start)) {
         make_stream(t, &v, &s, pick(t->c, 3));
     } else {

@@ -131,7 +131,7 @@ static uint32_t put_numbers(planned *p, const uint64_t *numbers, const int *widt
     return at;
 }
 
-static void plan_payload(trial *t, planned *p, const model_memories *m)
+void plan_payload(trial *t, planned *p, const model_memories *m)
 {
     uint64_t ram = plan_place(t, m->ram_length, RAM_BASE), address = RAM_BASE + ram;
     uint64_t flash = plan_place(t, m->flash_length, 0);
@@ -158,6 +158,17 @@ static void plan_payload(trial *t, planned *p, const model_memories *m)
     }
     fill(t->c, p->payload + p->length, data);
     p->length += data;
+}
+
+void plan_bad_count(trial *t, planned *p, const model_memories *memories)
+{
+    enum { COUNT_PLACE = 4 };
+    bool ram = p->opcode == OP_READ || p->opcode == OP_COPY, flash = p->opcode == OP_READ_QSPI || p->opcode == OP_ERASE;
+    uint64_t counts[] = {0, memories->work_length + 1};
+    if (!ram && !flash)
+        return;
+    put_little(p->payload, 4, ram ? RAM_BASE : 0);
+    put_little(p->payload + COUNT_PLACE, 2, PICK_OF(t->c, counts));
 }
 
 void plan_command(trial *t, planned *p, const model_memories *memories)

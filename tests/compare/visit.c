@@ -57,17 +57,6 @@ static void refused_call(trial *t, desk *d, const uint8_t *input, size_t left)
     memcpy(d->record, record, sizeof record);
 }
 
-static void alter(trial *t, desk *d)
-{
-    uint32_t which = pick(t->c, d->kind == KIND_UARTBOOT ? 3 : 1);
-    uint8_t *library = which == 0 ? d->library.ram : which == 1 ? d->library.work : d->library.flash;
-    uint8_t *model = which == 0 ? d->model.ram : which == 1 ? d->model.work : d->model.flash;
-    size_t length = which == 0 ? d->model.ram_length : which == 1 ? d->model.work_length : d->model.flash_length;
-    size_t place = pick(t->c, once_in(t->c, 3) ? (uint32_t)length : length < 16 ? (uint32_t)length : 16);
-    library[place] = model[place] = (uint8_t)pick(t->c, 256);
-    tell(t, "altered: memory %u, byte %zu is %02X\n", which, place, model[place]);
-}
-
 /* So many calls that comparing whole memories after each stays cheap. */
 static size_t most_calls(const visit *v)
 {
@@ -95,8 +84,7 @@ static void run_cut(trial *t, const visit *v, desk *d, const cut *how, ending *e
         size_t left = v->length - e->taken;
         if (refusals && once_in(t->c, 6))
             refused_call(t, d, next, left);
-        if (v->alters && once_in(t->c, 4))
-            alter(t, d);
+        alter(t, d, v->alters);
         next_call(t, how, calls++ >= most, left, &shown, &room);
         model_report got = desk_call(t, d, next, shown, room, &reply);
         append(e, reply, got.sent);

@@ -2,13 +2,13 @@
 #ifndef VISIT_H
 #define VISIT_H
 
-#include "desk.h"
+#include "alter.h"
 
 typedef struct {
     setting start;
     const uint8_t *stream;
     size_t length;
-    bool alters; /* memories are written between calls, so that cuts may end differently */
+    alters alters; /* memories are written between calls, so that cuts may end differently */
 } visit;
 
 void visit_run(trial *t, const visit *v);

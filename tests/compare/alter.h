@@ -1,0 +1,14 @@
+/* The caller's own writes to lent memories between two calls. */
+#ifndef ALTER_H
+#define ALTER_H
+
+#include "desk.h"
+
+/* None; any byte of any memory; payloads alone, once they were accepted, so that the stream still fits the session. */
+typedef enum { ALTERS_NOTHING, ALTERS_BYTES, ALTERS_PAYLOADS } alters;
+
+alters draw_alters(trial *t, uint32_t kind);
+/* Sometimes writes. */
+void alter(trial *t, desk *d, alters what);
+
+#endif

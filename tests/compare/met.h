@@ -1,0 +1,21 @@
+/* What a call to a session meets: noted before it is made, and counted once the model has accepted it. */
+#ifndef MET_H
+#define MET_H
+
+#include "desk.h"
+#include "seen.h"
+
+typedef struct {
+    uint32_t before[WORDS]; /* the record as it was */
+    bool executes;          /* its first byte leads to an execution that nothing refuses */
+    int count;
+    struct {
+        seen_what what;
+        uint32_t number;
+    } notes[12];
+} meeting;
+
+meeting meeting_before(const desk *d, const uint8_t *input, size_t shown, size_t room);
+void meeting_after(const meeting *met, const desk *d, const model_report *r);
+
+#endif
