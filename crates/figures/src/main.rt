@@ -1,5 +1,6 @@
 // Runs the published figures over the proved code. What it writes is held to the file stdout beside src/.
 mod checksums;
+mod exchanges;
 mod numbers;
 mod ranges;
 
@@ -7,4 +8,5 @@ fn main() {
     checksums::run();
     numbers::run();
     ranges::run();
+    exchanges::run();
 }
