@@ -159,12 +159,21 @@ def exported_of(source):
     return functions, [struct_of(kind, source) for kind in kinds]
 
 
+def each_once(structs):
+    """Functions of several crates may give back the same struct, but not two of one name."""
+    found = {}
+    for struct in structs:
+        if found.setdefault(struct.name, struct) != struct:
+            raise Unknown(f"the crates for C have two structs '{struct.name}' that differ")
+    return list(found.values())
+
+
 def boundary_of(root):
     """The same of all crates that C calls: capi, and those whose names begin with capi_."""
     crates = Path(root) / "crates"
     names = sorted(path.name for path in crates.iterdir() if path.name == "capi" or path.name.startswith("capi_"))
     parts = [exported_of(Source(crates, name)) for name in names]
-    return [f for functions, _ in parts for f in functions], [s for _, structs in parts for s in structs]
+    return [f for functions, _ in parts for f in functions], each_once(s for _, structs in parts for s in structs)
 
 
 def names_of(functions, structs):

@@ -14,7 +14,9 @@ from pathlib import Path
 from agree import Differs, agree
 
 HEADER, README = "include/undalisho.h", "README.md"
-CAPI, FRAME, OFFER = "crates/capi/src/lib.rt", "crates/frame/src/lib.rt", "crates/offer/src/lib.rt"
+CAPI, OFFER = "crates/capi/src/lib.rt", "crates/offer/src/lib.rt"
+CAPI_FRAME, FRAME = "crates/capi_frame/src/lib.rt", "crates/frame/src/lib.rt"
+CAPI_ROM, CAPI_UARTBOOT, CALLED = "crates/capi_rom/src/lib.rt", "crates/capi_uartboot/src/lib.rt", "crates/called/src/lib.rt"
 CAPI_INSPECT, IMAGE_HEADER = "crates/capi_inspect/src/lib.rt", "crates/inspect/src/image_header.rt"
 CAPI_HEADERS, HEADERS, IMAGE = "crates/capi_headers/src/lib.rt", "crates/headers/src/lib.rt", "crates/image/src/lib.rt"
 RANK, ORDER = "crates/version/src/rank.rt", "crates/version/src/order.rt"
@@ -172,13 +174,27 @@ EDITS = {
          "the header gives und_offer the parameters"),
         ("slice that is written", "und_rank(field: &[u8])", "und_rank(field: &mut [u8])",
          "conflicting types for 'und_rank'"),
-        ("unknown parameter", "kind: u32,", "kind: u128,", "the parameter 'kind: u128' has a type that is not known"),
         ("unknown reference", "field: &[u8]", "field: &u8", "the parameter 'field: &u8' has a type that is not known"),
         ("unknown result", ") -> Ranked", ") -> bool", "the result type 'bool' is not known"),
         ("function that has no name for C", '#[no_mangle]\npub extern "C" fn und_rank', 'pub extern "C" fn und_rank',
          'not every extern "C" has the form'),
         ("function renamed", "fn und_rank(", "fn und_ranks(", "lacks .'function und_ranks'."),
     ],
+    CAPI_FRAME: [
+        ("output that is only read", "und_frame_e(code: &[u8], out: &mut [u8])", "und_frame_e(code: &[u8], out: &[u8])",
+         "conflicting types for 'und_frame_e'"),
+    ],
+    CAPI_ROM: [
+        ("unknown parameter", "kind: u32,", "kind: u128,", "the parameter 'kind: u128' has a type that is not known"),
+        ("report of its own", "use called::Called;", "#[repr(C)]\npub struct Called {\n    pub number: u32,\n}",
+         "two structs 'Called' that differ"),
+    ],
+    CAPI_UARTBOOT: [
+        ("lent memories swapped", "    flash: &mut [u8],\n    work: &mut [u8],", "    work: &mut [u8],\n    flash: &mut [u8],",
+         "the header gives und_uartboot_call the parameters"),
+    ],
+    CALLED: [("counts swapped", "pub taken: usize,\n    pub sent: usize,", "pub sent: usize,\n    pub taken: usize,",
+              'static assertion failed: "und_report.sent: place"')],
     CAPI_INSPECT: [
         ("slice that is written", "payload: &[u8]", "payload: &mut [u8]", "conflicting types for 'und_read_command'"),
         ("other struct as result", ") -> ImageRead", ") -> ProductRead", "conflicting types for 'und_read_image'"),

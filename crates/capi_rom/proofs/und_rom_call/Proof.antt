@@ -1,10 +1,10 @@
--- `capi::und_rom_call`: what C gets is the session's answer.
+-- `capi_rom::und_rom_call`: what C gets is the session's answer.
 -- Assumes nothing.
 use Rattle.rom.specs.Session.{rom}
-use Rattle.capi.proofs.Boundary.{given-back}
+use Rattle.called.proofs.Boundary.{given-back}
 use borrow.Author.Needs.{needs}
-use Rattle.capi.proofs.und_rom_call.Statement.{statement}
-use Rattle.capi.proofs.und_rom_call.Tie as tie
+use Rattle.capi_rom.proofs.und_rom_call.Statement.{statement}
+use Rattle.capi_rom.proofs.und_rom_call.Tie as tie
 
 record-of-requires : tie.Need-record-of-requires
 record-of-requires c κs = search needs

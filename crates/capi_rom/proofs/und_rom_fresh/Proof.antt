@@ -1,9 +1,9 @@
--- `capi::und_rom_fresh`: the fresh record in words.
+-- `capi_rom::und_rom_fresh`: the fresh record in words.
 -- Assumes nothing.
 use mathlib.Core.Path.{refl}
 use borrow.Author.Needs.{needs}
-use Rattle.capi.proofs.und_rom_fresh.Statement.{statement}
-use Rattle.capi.proofs.und_rom_fresh.Tie as tie
+use Rattle.capi_rom.proofs.und_rom_fresh.Statement.{statement}
+use Rattle.capi_rom.proofs.und_rom_fresh.Tie as tie
 
 fresh-requires : tie.Need-fresh-requires
 fresh-requires c κs = search needs

@@ -1,10 +1,10 @@
--- `capi::hand_back`: a refused call's number isn't 0, an accepted one's is.
+-- `called::hand_back`: a refused call's number isn't 0, an accepted one's is.
 -- Assumes nothing.
 use mathlib.Core.Path.{refl}
 use borrow.Author.Tests.{eq-eqb, ne-eqb}
 use borrow.Author.Needs.{needs}
-use Rattle.capi.proofs.hand_back.Statement.{statement}
-use Rattle.capi.proofs.hand_back.Tie as tie
+use Rattle.called.proofs.hand_back.Statement.{statement}
+use Rattle.called.proofs.hand_back.Tie as tie
 
 called-of-requires : tie.Need-called-of-requires
 called-of-requires c κs = search needs

@@ -12,8 +12,8 @@ use Rattle.machine.specs.Words.{recordOf, wordsOf}
 use Rattle.machine.specs.declared.Record.{Record}
 use Rattle.machine.specs.declared.Report.{Report}
 use Rattle.machine.proofs.Refusals.{refused-keeps}
-use Rattle.capi.specs.Called.{calledOf, wordsAfter, given, givenOf}
-use Rattle.capi.specs.declared.Called.{Called}
+use Rattle.called.specs.Called.{calledOf, wordsAfter, given, givenOf}
+use Rattle.called.specs.declared.Called.{Called}
 
 -- a session call on the record r that the words make
 module _ {A M S : Type 0} (σ : Session A M S) (words : List ℕ) (mem : M) (input : List A) (reply : List ℕ) (r : Record)

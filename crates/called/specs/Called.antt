@@ -7,7 +7,7 @@ use lib.Dec.{eqb}
 use Rattle.machine.specs.Session.{Answer}
 use Rattle.machine.specs.Words.{wordsOf}
 use Rattle.machine.specs.declared.Report.{Report}
-use Rattle.capi.specs.declared.Called.{Called}
+use Rattle.called.specs.declared.Called.{Called}
 
 abbrev pub calledOf : Report → Called
 calledOf r = record { number = r .number; standing = r .standing; taken = r .taken; sent = r .sent }

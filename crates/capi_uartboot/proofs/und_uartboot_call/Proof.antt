@@ -1,11 +1,11 @@
--- `capi::und_uartboot_call`: what C gets is the session's answer.
+-- `capi_uartboot::und_uartboot_call`: what C gets is the session's answer.
 -- Assumes nothing.
 use Rattle.command_execution.specs.Memories.{memories}
 use Rattle.uartboot.specs.Session.{uartboot}
-use Rattle.capi.proofs.Boundary.{given-back}
+use Rattle.called.proofs.Boundary.{given-back}
 use borrow.Author.Needs.{needs}
-use Rattle.capi.proofs.und_uartboot_call.Statement.{statement}
-use Rattle.capi.proofs.und_uartboot_call.Tie as tie
+use Rattle.capi_uartboot.proofs.und_uartboot_call.Statement.{statement}
+use Rattle.capi_uartboot.proofs.und_uartboot_call.Tie as tie
 
 record-of-requires : tie.Need-record-of-requires
 record-of-requires c κs = search needs
