@@ -13,6 +13,7 @@ use Rattle.command_execution.specs.Execution.{executed}
 use Rattle.version.specs.Text.{isNumber, wellFormed}
 use Rattle.version.specs.Rank.{rankOf}
 use Rattle.version.specs.Order.{comparedFields, orderOf}
+use Rattle.image.specs.Rule.{firstBroken}
 use Rattle.image.specs.Valid.{isValid, imageAt}
 use Rattle.slot.specs.Slot.{productInside, productMarked, selectOf}
 use Rattle.headers.specs.ImageHeader.{imageHeaderOf}
@@ -21,5 +22,5 @@ use Rattle.rom_flow.specs.Flow.{xorOf}
 use Rattle.figures.specs.ProvedSet.{AllHold, provedSet}
 
 pub proved-set : AllHold provedSet
-unfolding numberAt liesIn isFlashLength isValid imageAt productInside productMarked selectOf imageHeaderOf erased judged executed opcodeOf leaving moved placed afterBit afterBits afterByte after crcOf isNumber wellFormed rankOf comparedFields orderOf drain feed uncut xorOf
+unfolding numberAt liesIn isFlashLength firstBroken isValid imageAt productInside productMarked selectOf imageHeaderOf erased judged executed opcodeOf leaving moved placed afterBit afterBits afterByte after crcOf isNumber wellFormed rankOf comparedFields orderOf drain feed uncut xorOf
 proved-set = (refl, (refl, (refl, (refl, (refl, (refl, (refl, (refl, (refl, (refl, (refl, (refl, (refl, (refl, (refl, (refl, tt))))))))))))))))

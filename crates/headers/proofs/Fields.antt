@@ -11,7 +11,7 @@ use borrow.Rule.Slice.PartMut.{midOf, putMid}
 use Rattle.wire.proofs.Tests.{both-true}
 use Rattle.memory.specs.Store.{laid}
 use Rattle.version.specs.Text.{fieldLength, wellFormed}
-use Rattle.image.specs.Valid.{validFlag}
+use Rattle.image.specs.Rule.{validFlag}
 use Rattle.headers.specs.Little.{littleOf}
 use Rattle.headers.specs.ImageHeader.{headerBytes}
 

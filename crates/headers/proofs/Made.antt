@@ -17,7 +17,8 @@ use Rattle.crc.specs.Crc.{crcOf}
 use Rattle.version.specs.Text.{fieldLength, wellFormed}
 use Rattle.version.specs.Rank.{malformedText}
 use Rattle.image.specs.Header.{isMarked, flagAt, idAt, sizeAt, crcAt, versionAt, encryptedAt, headerLength}
-use Rattle.image.specs.Valid.{validFlag, largestSize, isValid}
+use Rattle.image.specs.Rule.{validFlag, largestSize, firstBroken}
+use Rattle.image.specs.Valid.{isValid}
 use Rattle.slot.specs.Slot.{productInside, productMarked}
 use Rattle.headers.specs.Little.{littleOf}
 use Rattle.headers.specs.ProductHeader.{productHeaderOf}
@@ -92,7 +93,7 @@ accepted code version id time e =
     (λ r. absurd (let z : malformedText ≡ 0 = simp (p, q, r) at e in omega arith))))
 
 pub made-image : MadeImage
-unfolding isValid
+unfolding isValid firstBroken
 made-image code version front back id time small e =
     let a = accepted code version id time e in
     let size = length code in
@@ -101,8 +102,10 @@ made-image code version front back id time small e =
     let h = says front (code ++ back) version id size crc time (a .sixteen) (omega (arith, a .fits)) (crc-lt code small) in
     let within : length front + headerLength + size ≤ length (front ++ (header ++ (code ++ back))) =
     simp length-append (omega (arith, a .sixteen)) in
+    let headed : length front + headerLength ≤ length (front ++ (header ++ (code ++ back))) = omega (arith, within) in
     rw (a .is-made) (
       simp (
+        le-leb _ _ headed,
         h .mark,
         h .flag,
         h .its-size,

@@ -10,7 +10,7 @@ use Rattle.crc.specs.Crc.{crcOf}
 use Rattle.version.specs.Text.{wellFormed}
 use Rattle.version.specs.Rank.{malformedText}
 use Rattle.image.specs.Header.{headerLength}
-use Rattle.image.specs.Valid.{validFlag, largestSize}
+use Rattle.image.specs.Rule.{validFlag, largestSize}
 use Rattle.headers.specs.declared.ImageHeader.{ImageHeader}
 use Rattle.headers.specs.Little.{littleOf}
 

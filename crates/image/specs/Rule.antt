@@ -3,7 +3,7 @@
 -- Assumes nothing.
 use Prim.Native.Nat.{ℕ, _+_}
 use mathlib.Core.List.{List}
-use mathlib.Core.Bool.{Bool, true, false, cond, not}
+use mathlib.Core.Bool.{Bool, cond, not}
 use lib.Dec.{eqb, leb}
 use lib.ListN.{length}
 use Rattle.crc.specs.Rule.{rule32}
@@ -11,7 +11,13 @@ use Rattle.crc.specs.Crc.{crcOf}
 use Rattle.image.specs.declared.rule.Rule.{Rule}
 use Rattle.image.specs.declared.rule.Rule.the-variants.{Nothing, Header, Mark, Flag, Size, Reach, Encrypted, Crc}
 use Rattle.image.specs.Header.{isMarked, flagAt, sizeAt, crcAt, encryptedAt, headerLength, codeAt}
-use Rattle.image.specs.Valid.{validFlag, largestSize}
+
+-- the flag of a valid image
+abbrev pub validFlag : ℕ
+validFlag = 0xAA
+
+abbrev pub largestSize : ℕ
+largestSize = 131072
 
 -- the number of a rule; 0 where none is broken
 abbrev pub ruleNumber : Rule → ℕ
@@ -24,20 +30,11 @@ ruleNumber Reach = 5
 ruleNumber Encrypted = 6
 ruleNumber Crc = 7
 
-abbrev pub isNothing : Rule → Bool
-isNothing Nothing = true
-isNothing Header = false
-isNothing Mark = false
-isNothing Flag = false
-isNothing Size = false
-isNothing Reach = false
-isNothing Encrypted = false
-isNothing Crc = false
-
 -- the header's 64 bytes lie wholly in the memory
 abbrev pub headerInside : (memory : List ℕ) (offset : ℕ) → Bool
 headerInside memory offset = leb (offset + headerLength) (length memory)
 
+-- mark 70 51, flag AA, size 1 to 131,072, header and code wholly in the memory, not encrypted, CRC-32 of the code equal
 unfoldable pub firstBroken : (memory : List ℕ) (offset : ℕ) → Rule
 firstBroken memory offset =
     cond (not (headerInside memory offset)) Header

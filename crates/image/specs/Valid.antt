@@ -1,33 +1,17 @@
 -- Which images are valid (01, "Dual image"). For a file the offset is 0 and the memory is the file.
 -- Assumes nothing.
-use Prim.Native.Nat.{ℕ, _+_}
+use Prim.Native.Nat.{ℕ}
 use mathlib.Core.List.{List}
-use mathlib.Core.Bool.{Bool, _&&_, cond}
-use lib.Dec.{eqb, leb}
-use lib.ListN.{length}
-use Rattle.crc.specs.Rule.{rule32}
-use Rattle.crc.specs.Crc.{crcOf}
+use mathlib.Core.Bool.{Bool, cond}
+use lib.Dec.{eqb}
 use Rattle.image.specs.declared.Image.{Image}
 use Rattle.image.specs.declared.Image.the-variants.{Valid, Invalid}
-use Rattle.image.specs.Header.{isMarked, flagAt, idAt, sizeAt, crcAt, encryptedAt, headerLength, codeAt}
+use Rattle.image.specs.Header.{idAt, sizeAt}
+use Rattle.image.specs.Rule.{ruleNumber, firstBroken}
 
--- the flag of a valid image
-abbrev pub validFlag : ℕ
-validFlag = 0xAA
-
-abbrev pub largestSize : ℕ
-largestSize = 131072
-
--- mark 70 51, flag AA, size 1 to 131,072, header and code wholly in the memory, not encrypted, CRC-32 of the code equal
+-- it breaks no rule
 unfoldable pub isValid : (memory : List ℕ) (offset : ℕ) → Bool
-isValid memory offset =
-    isMarked memory offset 0x51
-    && (eqb (flagAt memory offset) validFlag
-    && (leb 1 (sizeAt memory offset)
-    && (leb (sizeAt memory offset) largestSize
-    && (leb (offset + headerLength + sizeAt memory offset) (length memory)
-    && (eqb (encryptedAt memory offset) 0
-    && eqb (crcOf rule32 (codeAt memory offset)) (crcAt memory offset))))))
+isValid memory offset = eqb (ruleNumber (firstBroken memory offset)) 0
 
 -- a valid image with its id and size, or that there is none
 unfoldable pub imageAt : (memory : List ℕ) (offset : ℕ) → Image

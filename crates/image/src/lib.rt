@@ -6,9 +6,9 @@ ghost use Prim.Native.Nat.{_+_, _≤_};
 ghost use lib.ListN.{length};
 ghost use Rattle.wire.specs.Part.{IsPart};
 ghost use Rattle.image.specs.Header.{isMarked, versionPlace, versionLength, headerLength};
-ghost use Rattle.image.specs.Valid.{isValid, imageAt};
-use crate::rule::Rule;
+ghost use Rattle.image.specs.Valid.{imageAt};
 use crate::rule::first_broken;
+use crate::rule::number_of;
 use wire::number::number32_at;
 use wire::range::Place;
 use wire::range::place_in;
@@ -37,23 +37,6 @@ pub fn is_marked(memory: &[u8], offset: usize, second: u8) -> bool
     memory[offset + 1] == second
 }
 
-// Whether the image is valid whose header begins at an offset.
-fn is_valid(memory: &[u8], offset: usize) -> bool
-    requires { ⌜ offset + headerLength ≤ length (now memory) ⌝ }
-    ensures { λ r. ⌜ r ≡ isValid (now (memory .entry)) offset ⌝ }
-{
-    match first_broken(memory, offset) {
-        Rule::Nothing => true,
-        Rule::Header => false,
-        Rule::Mark => false,
-        Rule::Flag => false,
-        Rule::Size => false,
-        Rule::Reach => false,
-        Rule::Encrypted => false,
-        Rule::Crc => false,
-    }
-}
-
 // The image at an offset of a memory; of a file, at 0.
 pub fn image_at(memory: &[u8], offset: usize) -> Image
     ensures { λ r. ⌜ r ≡ imageAt (now (memory .entry)) offset ⌝ }
@@ -61,7 +44,7 @@ pub fn image_at(memory: &[u8], offset: usize) -> Image
     let Place::Inside(_) = place_in(offset, HEADER, 0, memory.len()) else {
         return Image::Invalid;
     };
-    if is_valid(memory, offset) {
+    if number_of(first_broken(memory, offset)) == 0 {
         Image::Valid(memory[offset + 3], number32_at(memory, offset + 4) as usize)
     } else {
         Image::Invalid

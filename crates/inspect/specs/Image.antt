@@ -4,23 +4,20 @@
 use Prim.Native.Nat.{ℕ, _+_}
 use mathlib.Core.List.{List}
 use mathlib.Core.Bool.{cond}
-use Rattle.image.specs.declared.rule.Rule.the-variants.{Header}
 use Rattle.image.specs.Header.{idAt, sizeAt, versionPlace, headerLength}
 use Rattle.image.specs.Rule.{ruleNumber, headerInside, firstBroken}
 use Rattle.inspect.specs.declared.image_header.ImageRead.{ImageRead}
 
--- the header does not lie in the memory
-abbrev pub unread : ImageRead
-unread = record { rule = ruleNumber Header; id = 0; size = 0; «version_place» = 0; «code_place» = 0 }
+-- a number, where the header lies in the memory, and else 0
+abbrev pub shown : (memory : List ℕ) (offset n : ℕ) → ℕ
+shown memory offset n = cond (headerInside memory offset) n 0
 
 unfoldable pub readImage : (memory : List ℕ) (offset : ℕ) → ImageRead
 readImage memory offset =
-    cond (headerInside memory offset)
-    (record {
+    record {
       rule = ruleNumber (firstBroken memory offset);
-      id = idAt memory offset;
-      size = sizeAt memory offset;
-      «version_place» = offset + versionPlace;
-      «code_place» = offset + headerLength;
-    })
-    unread
+      id = shown memory offset (idAt memory offset);
+      size = shown memory offset (sizeAt memory offset);
+      «version_place» = shown memory offset (offset + versionPlace);
+      «code_place» = shown memory offset (offset + headerLength);
+    }

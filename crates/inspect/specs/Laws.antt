@@ -4,18 +4,16 @@ use Prim.Native.Nat.{ℕ}
 use mathlib.Core.Path.{_≡_}
 use mathlib.Core.List.{List}
 use mathlib.Core.Bool.{true}
-use mathlib.Core.Logic.{_↔_}
 use Rattle.image.specs.declared.Image.the-variants.{Valid}
 use Rattle.image.specs.Valid.{isValid, imageAt}
 use Rattle.slot.specs.Slot.{refused, selectOf}
 use Rattle.inspect.specs.Image.{readImage}
 use Rattle.inspect.specs.Product.{readProduct}
 
--- the rule is 0 exactly if the image is valid, and then id and size are that image's
-abbrev pub RuleExactly : (memory : List ℕ) (offset : ℕ) → Type 0
-RuleExactly memory offset =
-    ((readImage memory offset .rule ≡ 0) ↔ (isValid memory offset ≡ true))
-    × (isValid memory offset ≡ true → imageAt memory offset ≡ Valid (readImage memory offset .id) (readImage memory offset .size))
+-- of a valid image, the id and size that are read are that image's
+abbrev pub SameImage : (memory : List ℕ) (offset : ℕ) → Type 0
+SameImage memory offset =
+    isValid memory offset ≡ true → imageAt memory offset ≡ Valid (readImage memory offset .id) (readImage memory offset .size)
 
 -- where a product header is refused, the slot is refused with the same number
 abbrev pub SameRefusal : (flash : List ℕ) (offset : ℕ) → Type 0

@@ -12,6 +12,7 @@ use Rattle.wire.specs.Length.{isFlashLength}
 use Rattle.wire.proofs.Bytes.{are-bytes}
 use Rattle.crc.specs.Register.{leaving, moved, placed, afterBit, afterBits, afterByte, after}
 use Rattle.crc.specs.Crc.{crcOf}
+use Rattle.image.specs.Rule.{firstBroken}
 use Rattle.image.specs.Valid.{isValid, imageAt}
 use Rattle.slot.specs.declared.Selected.{Selected}
 use Rattle.slot.specs.Slot.{productInside, productMarked, starts, selectOf}
@@ -28,7 +29,7 @@ flashWith id id′ =
     ∷ imageWith id ++ imageWith id′ ++ replicate 3954 0xFF
 
 both-start : (selectOf (flashWith 10 9) 0 ≡ starts 1) × (selectOf (flashWith 9 10) 0 ≡ starts 2)
-unfolding numberAt liesIn isFlashLength leaving moved placed afterBit afterBits afterByte after crcOf isValid imageAt productInside productMarked selectOf
+unfolding numberAt liesIn isFlashLength leaving moved placed afterBit afterBits afterByte after crcOf firstBroken isValid imageAt productInside productMarked selectOf
 both-start = (refl, refl)
 
 module _ (f : Routine) (slot : ℕ) (keeps : Keeps f) (stuck : StuckOn slot f) where

@@ -10,8 +10,7 @@ use borrow.Author.Tests.{le-leb, lt-leb, eq-eqb, ne-eqb, not-true, not-false}
 use Rattle.crc.specs.Rule.{rule32}
 use Rattle.crc.specs.Crc.{crcOf}
 use Rattle.image.specs.Header.{sizeAt, crcAt, headerLength}
-use Rattle.image.specs.Valid.{largestSize}
-use Rattle.image.specs.Rule.{firstBroken}
+use Rattle.image.specs.Rule.{largestSize, firstBroken}
 use Rattle.image.proofs.rule.first_broken.Statement.{statement}
 use Rattle.image.proofs.rule.first_broken.Tie as tie
 

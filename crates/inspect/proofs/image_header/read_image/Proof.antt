@@ -8,7 +8,7 @@ use borrow.Author.Needs.{needs}
 use borrow.Author.Tests.{le-leb}
 use Rattle.wire.proofs.Ranges.{range-over, lies-inside, lies-fits}
 use Rattle.image.specs.Header.{headerLength}
-use Rattle.image.specs.Rule.{ruleNumber}
+use Rattle.image.specs.Rule.{ruleNumber, firstBroken}
 use Rattle.inspect.specs.Image.{readImage}
 use Rattle.inspect.proofs.image_header.read_image.Statement.{statement}
 use Rattle.inspect.proofs.image_header.read_image.Tie as tie
@@ -33,7 +33,7 @@ number-of-requires : tie.Need-number-of-requires
 number-of-requires c κs = search needs
 
 returns : tie.Need-returns
-unfolding readImage
+unfolding readImage firstBroken
 returns c =
     let a = c .before .before .before .before .before .args in
     let over = range-over (a .offset) headerLength (length (a .memory .now)) (sym (c .before .before .before .place-in .ensures) ∙ c .before .enum-told2 .given .1) in
