@@ -19,7 +19,7 @@ use Rattle.version.specs.Rank.{malformedText}
 use Rattle.image.specs.Header.{isMarked, flagAt, idAt, sizeAt, crcAt, versionAt, encryptedAt, headerLength}
 use Rattle.image.specs.Rule.{validFlag, largestSize, firstBroken}
 use Rattle.image.specs.Valid.{isValid}
-use Rattle.slot.specs.Slot.{productInside, productMarked}
+use Rattle.slot.specs.Product.{productInside, productMarked}
 use Rattle.headers.specs.Little.{littleOf}
 use Rattle.headers.specs.ProductHeader.{productHeaderOf}
 use Rattle.headers.specs.ImageHeader.{emptyCode, longCode, headerBytes, imageHeaderOf}

@@ -8,7 +8,7 @@ use lib.ListN.{length}
 use Rattle.wire.specs.Bytes.{Bytes, Word}
 use Rattle.image.specs.Header.{idAt, sizeAt, versionAt, codeAt}
 use Rattle.image.specs.Valid.{isValid}
-use Rattle.slot.specs.Slot.{productInside, productMarked, firstOffset, secondOffset}
+use Rattle.slot.specs.Product.{productInside, productMarked, firstOffset, secondOffset}
 use Rattle.headers.specs.ProductHeader.{productHeaderOf}
 use Rattle.headers.specs.ImageHeader.{imageHeaderOf}
 

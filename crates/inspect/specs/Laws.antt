@@ -1,4 +1,4 @@
--- How what is read stands to what is judged (01, "Dual image" and "Numbers given back": selector).
+-- How what is read stands to what is judged (01, "Dual image").
 -- Assumes nothing.
 use Prim.Native.Nat.{ℕ}
 use mathlib.Core.Path.{_≡_}
@@ -6,17 +6,9 @@ use mathlib.Core.List.{List}
 use mathlib.Core.Bool.{true}
 use Rattle.image.specs.declared.Image.the-variants.{Valid}
 use Rattle.image.specs.Valid.{isValid, imageAt}
-use Rattle.slot.specs.Slot.{refused, selectOf}
 use Rattle.inspect.specs.Image.{readImage}
-use Rattle.inspect.specs.Product.{readProduct}
 
 -- of a valid image, the id and size that are read are that image's
 abbrev pub SameImage : (memory : List ℕ) (offset : ℕ) → Type 0
 SameImage memory offset =
     isValid memory offset ≡ true → imageAt memory offset ≡ Valid (readImage memory offset .id) (readImage memory offset .size)
-
--- where a product header is refused, the slot is refused with the same number
-abbrev pub SameRefusal : (flash : List ℕ) (offset : ℕ) → Type 0
-SameRefusal flash offset =
-    (readProduct flash offset .number ≡ 0 → ⊥)
-    → selectOf flash offset ≡ refused (readProduct flash offset .number)

@@ -1,3 +1,2 @@
 pub mod Fakes
-pub mod Products
 pub mod Refusal

@@ -11,7 +11,8 @@ use Rattle.image.specs.declared.Image.the-variants.{Valid, Invalid}
 use Rattle.image.specs.Header.{idAt, sizeAt}
 use Rattle.image.specs.Valid.{isValid, imageAt}
 use Rattle.slot.specs.Id.{isNewer}
-use Rattle.slot.specs.Slot.{firstOffset, secondOffset, chosen, noImage, refused, selectOf}
+use Rattle.slot.specs.Product.{firstOffset, secondOffset, productAt}
+use Rattle.slot.specs.Slot.{chosen, noImage, refused, selectOf}
 use Rattle.slot.specs.Refusal.{RefusedExactly}
 
 -- an image by whether it is valid
@@ -32,7 +33,7 @@ no-images : (v w : Bool) (i m j n : ℕ) → (v ≡ false) × (w ≡ false) → 
 no-images v w i m j n e = simp (e .0, e .1)
 
 pub refused-exactly : (flash : List ℕ) (offset : ℕ) → RefusedExactly flash offset
-unfolding selectOf imageAt
+unfolding productAt selectOf imageAt
 refused-exactly flash offset sound inside marked =
     let a = firstOffset flash offset in
     let b = secondOffset flash offset in

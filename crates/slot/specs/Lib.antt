@@ -1,5 +1,5 @@
 pub mod Id
-pub mod Slot
 pub mod Product
+pub mod Slot
 pub mod Refusal
 pub mod Fakes

@@ -1,13 +1,38 @@
 -- What a product header says (01, "Dual image" and "Numbers given back": selector, 3, 51 and 52).
 -- Assumes nothing.
-use Prim.Native.Nat.{ℕ}
+use Prim.Native.Nat.{ℕ, _+_}
 use mathlib.Core.List.{List}
-use mathlib.Core.Bool.{cond, not}
+use mathlib.Core.Bool.{Bool, cond, not}
 use lib.ListN.{length}
+use Rattle.wire.specs.Number.{numberAt}
+use Rattle.wire.specs.Range.{liesIn}
 use Rattle.wire.specs.Length.{isFlashLength, badFlash}
+use Rattle.image.specs.Header.{isMarked}
 use Rattle.slot.specs.declared.product.Product.{Product}
 use Rattle.slot.specs.declared.product.Product.the-variants.{Images, Refused}
-use Rattle.slot.specs.Slot.{productInside, productMarked, firstOffset, secondOffset, noHeader, wrongMark}
+
+-- the numbers given for a product header that doesn't lie wholly in the flash, and for a wrong mark
+abbrev pub noHeader : ℕ
+noHeader = 51
+
+abbrev pub wrongMark : ℕ
+wrongMark = 52
+
+-- the product header, 12 bytes: mark 70 52, version 2, two image offsets of 4; the version is not tested
+abbrev pub productLength : ℕ
+productLength = 12
+
+unfoldable pub productInside : (flash : List ℕ) (offset : ℕ) → Bool
+productInside flash offset = liesIn offset productLength 0 (length flash)
+
+unfoldable pub productMarked : (flash : List ℕ) (offset : ℕ) → Bool
+productMarked flash offset = isMarked flash offset 0x52
+
+abbrev pub firstOffset : (flash : List ℕ) (offset : ℕ) → ℕ
+firstOffset flash offset = numberAt 4 flash (offset + 4)
+
+abbrev pub secondOffset : (flash : List ℕ) (offset : ℕ) → ℕ
+secondOffset flash offset = numberAt 4 flash (offset + 8)
 
 -- the flash offsets of the two images, or the number of the first test that fails
 unfoldable pub productAt : (flash : List ℕ) (offset : ℕ) → Product

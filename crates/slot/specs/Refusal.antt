@@ -9,7 +9,8 @@ use mathlib.Core.Logic.{_↔_}
 use lib.ListN.{length}
 use Rattle.wire.specs.Length.{isFlashLength}
 use Rattle.image.specs.Valid.{isValid}
-use Rattle.slot.specs.Slot.{productInside, productMarked, firstOffset, secondOffset, noImage, refused, selectOf}
+use Rattle.slot.specs.Product.{productInside, productMarked, firstOffset, secondOffset}
+use Rattle.slot.specs.Slot.{noImage, refused, selectOf}
 
 abbrev pub NeitherValid : (flash : List ℕ) (offset : ℕ) → Type 0
 NeitherValid flash offset = (isValid flash (firstOffset flash offset) ≡ false) × (isValid flash (secondOffset flash offset) ≡ false)

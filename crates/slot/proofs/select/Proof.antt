@@ -2,7 +2,7 @@
 -- Assumes nothing.
 use mathlib.Core.Path.{sym, _∙_}
 use borrow.Author.Needs.{needs}
-use Rattle.slot.proofs.Products.{slot-by-product}
+use Rattle.slot.specs.Slot.{selectOf}
 use Rattle.slot.proofs.select.Statement.{statement}
 use Rattle.slot.proofs.select.Tie as tie
 
@@ -34,12 +34,14 @@ choose-requires : tie.Need-choose-requires
 choose-requires c κs = search needs
 
 returns : tie.Need-returns
-returns c = simp (slot-by-product, sym (c .before .before .before .before .product-at .ensures) ∙ c .before .before .number .given .1) (c .refused .ensures)
+unfolding selectOf
+returns c = simp (sym (c .before .before .before .before .product-at .ensures) ∙ c .before .before .number .given .1) (c .refused .ensures)
 
 returns-2 : tie.Need-returns-2
+unfolding selectOf
 returns-2 c =
     let first = c .before .before .before .before in
-    simp (slot-by-product, sym (first .before .before .product-at .ensures) ∙ first .first .given .1)
+    simp (sym (first .before .before .product-at .ensures) ∙ first .first .given .1)
     (c .choose .ensures ∙ rw (c .before .image-at2 .ensures, c .before .before .image-at .ensures))
 
 pub select-spec : {M : Type 1} → statement M

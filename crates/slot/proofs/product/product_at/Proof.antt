@@ -8,8 +8,7 @@ use lib.ListN.{length}
 use borrow.Author.Tests.{not-true, not-false}
 use Rattle.wire.specs.Range.{liesIn}
 use Rattle.wire.proofs.Ranges.{lies-inside, lies-outside, lies-fits}
-use Rattle.slot.specs.Slot.{productLength, productInside, productMarked}
-use Rattle.slot.specs.Product.{productAt}
+use Rattle.slot.specs.Product.{productLength, productInside, productMarked, productAt}
 use borrow.Author.Needs.{needs}
 use Rattle.slot.proofs.product.product_at.Statement.{statement}
 use Rattle.slot.proofs.product.product_at.Tie as tie
