@@ -8,9 +8,10 @@ use native.Mathlib.Omega.{arith}
 use lib.ListN.{length, length-append}
 use borrow.Author.Tests.{leb-true, leb-false}
 use borrow.Table.Steps.{cases}
+use Rattle.wire.specs.Number.{bytesOf}
 use Rattle.rom_flow.specs.declared.kind.Kind.{Kind}
 use Rattle.rom_flow.specs.declared.kind.Kind.the-variants.{P, E}
-use Rattle.frame.specs.Frame.{longest, pair, isExtended, lengthField, headerOf, frameOf}
+use Rattle.frame.specs.Frame.{longest, isExtended, lengthField, headerOf, frameOf}
 
 pub longest-most : (kind : Kind) → longest kind ≤ 131071
 longest-most P = omega arith
@@ -26,11 +27,11 @@ plain-below P count e h = omega arith
 plain-below E count e h = leb-false 65536 count e
 
 -- the header
-pub extended-header : (kind : Kind) (count : ℕ) → isExtended kind count ≡ true → headerOf kind count ≡ 0x01 ∷ 0 ∷ 0 ∷ pair (count - 65536)
+pub extended-header : (kind : Kind) (count : ℕ) → isExtended kind count ≡ true → headerOf kind count ≡ 0x01 ∷ 0 ∷ 0 ∷ bytesOf 2 (count - 65536)
 unfolding lengthField
 extended-header kind count e = simp e
 
-pub plain-header : (kind : Kind) (count : ℕ) → isExtended kind count ≡ false → headerOf kind count ≡ 0x01 ∷ pair count
+pub plain-header : (kind : Kind) (count : ℕ) → isExtended kind count ≡ false → headerOf kind count ≡ 0x01 ∷ bytesOf 2 count
 unfolding lengthField
 plain-header kind count e = simp e
 

@@ -2,7 +2,7 @@
 -- Assumes nothing.
 use Prim.Native.Nat.{ℕ, suc, _+_, _-_, _*_, _%_, _/_, _≤_, _<_}
 use native.Mathlib.Omega.{arith}
-use native.Mathlib.Nat.{zero-add, div-add-mod}
+use native.Mathlib.Nat.{zero-add}
 use native.Mathlib.Numerals.{one-add}
 use mathlib.Core.Path.{_≡_, refl, sym, ap, _∙_}
 use mathlib.Core.Bool.{true, false}
@@ -10,8 +10,10 @@ use mathlib.Core.List.{List, [], _∷_, _++_, append-nil, append-assoc}
 use lib.Dec.{eqb, leb, ltb}
 use lib.ListN.{length, drop, length-append}
 use lib.Seq.{take-append-seam}
-use borrow.Author.Tests.{leb-true, eqb-false, lt-ltb, le-ltb, le-leb, ne-eqb}
+use borrow.Author.Tests.{leb-true, leb-false, eqb-false, ltb-false, lt-ltb, le-ltb, le-leb, ne-eqb}
 use borrow.Table.Steps.{cases}
+use Rattle.wire.specs.Number.{bytesOf}
+use Rattle.wire.proofs.Numbers.{bytes-number}
 use Rattle.memory.specs.Store.{laid}
 use Rattle.memory.proofs.Stores.{laid-next}
 use Rattle.machine.specs.Does.{Does, takes, sends, runs, needOf, tookOf, sentOf, byteOf}
@@ -27,7 +29,7 @@ use Rattle.rom_flow.specs.State.{State, state}
 use Rattle.rom_flow.specs.Flow.{xorOf, codeStep, does}
 use Rattle.rom_flow.specs.Receiver.{fresh, receiver}
 use Rattle.rom_flow.proofs.Laws.{lawful-any}
-use Rattle.frame.specs.Frame.{longest, pair, lengthField, headerOf, frameOf, emptyCode, longCode, shortOutput, written, framedOf}
+use Rattle.frame.specs.Frame.{longest, lengthField, headerOf, frameOf, emptyCode, longCode, shortOutput, written, framedOf}
 use Rattle.frame.specs.RoundTrip.{RoundTrip}
 
 -- the receiver at s, fed a stream uncut, takes all of it, sends what is said and comes to t
@@ -88,48 +90,50 @@ module _ (kind : Kind) (code ram : List ℕ) (fits : length code ≤ length ram)
   gives-acked some = gives-send _ refl (rw (lt-ltb 0 (length code) some) at (gives-code [] code refl))
 
 -- two bytes, read again
-pair-is : (n : ℕ) → n % 256 + 256 * (n / 256) ≡ n
-pair-is n = omega (arith, div-add-mod n 256)
+pair-is : (n : ℕ) → n < 65536 → n % 256 + 256 * (n / 256 % 256) ≡ n
+pair-is n h = omega (arith, bytes-number 2 n h)
 
 -- the header of a length n that is not zero, with a RAM of n bytes or more: 02 is sent, the header taken, and n acknowledged next
 module _ (ram : List ℕ) (n : ℕ) (some : 0 < n) (fits : n ≤ length ram) {stream said : List ℕ} {t : State} where
   -- a length field of two bytes
-  gives-plain : (kind : Kind) → Gives (state kind (SendAck n) 0 ram) stream said t →
-      Gives (fresh kind ram) (soh ∷ pair n ++ stream) (stx ∷ said) t
-  gives-plain kind g =
+  gives-plain : (kind : Kind) → n < 65536 → Gives (state kind (SendAck n) 0 ram) stream said t →
+      Gives (fresh kind ram) (soh ∷ bytesOf 2 n ++ stream) (stx ∷ said) t
+  gives-plain kind h g =
       let nonzero : eqb n 0 ≡ false = ne-eqb n 0 (λ e. omega arith) in
       gives-send _ refl
       (gives-take _ soh refl
-      (gives-take _ (n % 256) refl (gives-take _ (n / 256) refl (rw (pair-is n, nonzero, le-leb n (length ram) fits) g))))
+      (gives-take _ (n % 256) refl (gives-take _ (n / 256 % 256) refl (rw (pair-is n h, nonzero, le-leb n (length ram) fits) g))))
 
   -- an extended one
-  gives-extended : 65536 ≤ n → Gives (state E (SendAck n) 0 ram) stream said t →
-      Gives (fresh E ram) (soh ∷ 0 ∷ 0 ∷ pair (n - 65536) ++ stream) (stx ∷ said) t
-  gives-extended h g =
+  gives-extended : 65536 ≤ n → n ≤ longest E → Gives (state E (SendAck n) 0 ram) stream said t →
+      Gives (fresh E ram) (soh ∷ 0 ∷ 0 ∷ bytesOf 2 (n - 65536) ++ stream) (stx ∷ said) t
+  gives-extended h most g =
       let k = n - 65536 in
-      let sum : 65536 + (k % 256 + 256 * (k / 256)) ≡ n = omega (arith, pair-is k) in
+      let sum : 65536 + (k % 256 + 256 * (k / 256 % 256)) ≡ n = omega (arith, pair-is k (omega arith)) in
       gives-send _ refl
       (gives-take _ soh refl
       (gives-take _ 0 refl
-      (gives-take _ 0 refl (gives-take _ (k % 256) refl (gives-take _ (k / 256) refl (rw (sum, le-leb n (length ram) fits) g))))))
+      (gives-take _ 0 refl (gives-take _ (k % 256) refl (gives-take _ (k / 256 % 256) refl (rw (sum, le-leb n (length ram) fits) g))))))
 
   -- the one that the kind has for n
-  gives-header : (kind : Kind) → Gives (state kind (SendAck n) 0 ram) stream said t →
+  gives-header : (kind : Kind) → n ≤ longest kind → Gives (state kind (SendAck n) 0 ram) stream said t →
       Gives (fresh kind ram) (headerOf kind n ++ stream) (stx ∷ said) t
   unfolding lengthField
-  gives-header P g = gives-plain P g
-  gives-header E g = cases (leb 65536 n) (λ e. rw e (gives-extended (leb-true 65536 n e) g)) (λ e. rw e (gives-plain E g))
+  gives-header P most g = gives-plain P (omega arith) g
+  gives-header E most g =
+      cases (leb 65536 n) (λ e. rw e (gives-extended (leb-true 65536 n e) most g)) (λ e. rw e (gives-plain E (leb-false 65536 n e) g))
 
 -- a whole frame
-gives-frame : (kind : Kind) (code ram : List ℕ) → 0 < length code → length code ≤ length ram →
+gives-frame : (kind : Kind) (code ram : List ℕ) → 0 < length code → length code ≤ longest kind → length code ≤ length ram →
     Gives (fresh kind ram) (frameOf kind code) (stx ∷ ack ∷ xorOf code ∷ []) (ran kind code ram)
-gives-frame kind code ram some fits =
+gives-frame kind code ram some most fits =
     rw (append-assoc (headerOf kind (length code)) code (ack ∷ []))
-    (gives-header ram (length code) some fits kind (gives-acked kind code ram fits some))
+    (gives-header ram (length code) some fits kind most (gives-acked kind code ram fits some))
 
--- a code that is not refused: there is some, and its frame is written
+-- a code that is not refused: there is some, no more than its kind has, and its frame is written
 record Accepted (kind : Kind) (code out : List ℕ) : Type 0 where
   some : 0 < length code
+  most : length code ≤ longest kind
   is-written : framedOf kind code out ≡ written (record { number = 0; length = length (frameOf kind code) }) (laid (frameOf kind code) out)
 
 -- the number 0 says so: each refusal has another
@@ -142,11 +146,15 @@ accepted kind code out e =
     (λ q. absurd (let z : longCode ≡ 0 = simp (p, q) at e in omega arith))
     (λ q. cases (ltb (length out) (length (frameOf kind code)))
     (λ r. absurd (let z : shortOutput ≡ 0 = simp (p, q, r) at e in omega arith))
-    (λ r. record { some = omega (arith, eqb-false (length code) 0 p); is-written = simp (p, q, r) })))
+    (λ r. record {
+      some = omega (arith, eqb-false (length code) 0 p);
+      most = ltb-false (longest kind) (length code) q;
+      is-written = simp (p, q, r);
+    })))
 
 -- the output's first bytes are the frame, and the receiver takes it whole
 pub round-trip : RoundTrip
 round-trip kind code out ram e fits =
     let a = accepted kind code out e in
     let frame = frameOf kind code in
-    rw (a .is-written, take-append-seam frame (drop (length frame) out)) (gives-frame kind code ram (a .some) fits .whole)
+    rw (a .is-written, take-append-seam frame (drop (length frame) out)) (gives-frame kind code ram (a .some) (a .most) fits .whole)

@@ -1,6 +1,6 @@
 -- The boot frame (01, "ROM receiver" and "Numbers given back": frame).
 -- Assumes nothing.
-use Prim.Native.Nat.{ℕ, _-_, _%_, _/_}
+use Prim.Native.Nat.{ℕ, _-_}
 use mathlib.Core.List.{List, [], _∷_, _++_}
 use mathlib.Core.Bool.{Bool, false, cond}
 use lib.Dec.{eqb, leb, ltb}
@@ -9,6 +9,7 @@ use Rattle.memory.specs.Store.{laid}
 use Rattle.rom_flow.specs.declared.kind.Kind.{Kind}
 use Rattle.rom_flow.specs.declared.kind.Kind.the-variants.{P, E}
 use Rattle.wire.specs.Line.{soh, ack}
+use Rattle.wire.specs.Number.{bytesOf}
 use Rattle.rom_flow.specs.Flow.{firstExtended}
 use Rattle.frame.specs.declared.Framed.{Framed}
 
@@ -17,10 +18,6 @@ abbrev pub longest : Kind → ℕ
 longest P = 65535
 longest E = 131071
 
--- two bytes, the low one first
-abbrev pub pair : ℕ → List ℕ
-pair n = n % 256 ∷ n / 256 ∷ []
-
 -- only kind E has an extended length field, for lengths from 65,536 on
 abbrev pub isExtended : Kind → (count : ℕ) → Bool
 isExtended P count = false
@@ -28,7 +25,7 @@ isExtended E count = leb firstExtended count
 
 -- the shortest length field: two bytes; extended, 00 00 and two bytes of what the length is more than 65,536
 unfoldable pub lengthField : Kind → (count : ℕ) → List ℕ
-lengthField kind count = cond (isExtended kind count) (0 ∷ 0 ∷ pair (count - firstExtended)) (pair count)
+lengthField kind count = cond (isExtended kind count) (0 ∷ 0 ∷ bytesOf 2 (count - firstExtended)) (bytesOf 2 count)
 
 abbrev pub headerOf : Kind → (count : ℕ) → List ℕ
 headerOf kind count = soh ∷ lengthField kind count

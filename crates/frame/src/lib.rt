@@ -1,15 +1,15 @@
 // The boot frame: the code as a host sends it to the ROM's UART receiver.
 ghost use mathlib.Core.Path.{_≡_};
-ghost use Prim.Native.Nat.{_+_, _≤_};
+ghost use Prim.Native.Nat.{_≤_};
 ghost use lib.ListN.{length};
-ghost use lib.Seq.{sets};
 ghost use Rattle.memory.specs.Store.{laid};
-ghost use Rattle.frame.specs.Frame.{longest, pair, isExtended, headerOf, frameOf, refused, written, framedOf};
+ghost use Rattle.frame.specs.Frame.{longest, isExtended, headerOf, frameOf, refused, written, framedOf};
 use memory::store::lay;
 use rom_flow::header::FIRST_EXTENDED;
 use rom_flow::kind::Kind;
 use wire::line::ACK;
 use wire::line::SOH;
+use wire::put::put16;
 
 // The number given where there is no code.
 pub const EMPTY_CODE: u32 = 41;
@@ -68,15 +68,6 @@ fn header_length(kind: Kind, count: usize) -> usize
     if is_extended(kind, count) { 5 } else { 3 }
 }
 
-// Writes the two bytes of a number, the low one first.
-fn put_pair(out: &mut [u8], place: usize, number: u16)
-    requires { ⌜ place + 2 ≤ length (now out) ⌝ }
-    ensures { λ _. ⌜ now (out .exit) ≡ sets (now (out .entry)) place (pair number) ⌝ }
-{
-    out[place] = (number % 256) as u8;
-    out[place + 1] = (number / 256) as u8;
-}
-
 // Writes the header to the front of the output.
 fn put_header(kind: Kind, count: usize, out: &mut [u8])
     requires { ⌜ (count ≤ longest kind) × (length (headerOf kind count) ≤ length (now out)) ⌝ }
@@ -86,10 +77,10 @@ fn put_header(kind: Kind, count: usize, out: &mut [u8])
     if is_extended(kind, count) {
         out[1] = 0;
         out[2] = 0;
-        put_pair(out, 3, (count - FIRST_EXTENDED) as u16);
+        put16(out, 3, (count - FIRST_EXTENDED) as u16);
         return;
     }
-    put_pair(out, 1, count as u16);
+    put16(out, 1, count as u16);
 }
 
 // Writes a frame to the front of an output that has room for it.

@@ -8,11 +8,11 @@ use lib.ListN.{length, replicate}
 use lib.Seq.{sets}
 use borrow.Author.Tests.{eqb-true}
 use borrow.Rule.Slice.PartMut.{midOf, putMid}
+use Rattle.wire.specs.Number.{bytesOf}
 use Rattle.wire.proofs.Tests.{both-true}
 use Rattle.memory.specs.Store.{laid}
 use Rattle.version.specs.Text.{fieldLength, wellFormed}
 use Rattle.image.specs.Rule.{validFlag}
-use Rattle.headers.specs.Little.{littleOf}
 use Rattle.headers.specs.ImageHeader.{headerBytes}
 
 pub field-length : (version : List ℕ) → wellFormed version ≡ true → length version ≡ fieldLength
@@ -22,7 +22,7 @@ field-length version e = eqb-true (length version) fieldLength (both-true _ _ e 
 -- an image header whose version field is still 00
 abbrev pub unversioned : (id size crc time : ℕ) → List ℕ
 unversioned id size crc time =
-    sets (sets (sets (0x70 ∷ 0x51 ∷ validFlag ∷ id ∷ replicate 60 0) 4 (littleOf 4 size)) 8 (littleOf 4 crc)) 28 (littleOf 4 time)
+    sets (sets (sets (0x70 ∷ 0x51 ∷ validFlag ∷ id ∷ replicate 60 0) 4 (bytesOf 4 size)) 8 (bytesOf 4 crc)) 28 (bytesOf 4 time)
 
 pub version-laid : (id size crc time : ℕ) (version : List ℕ) → length version ≡ fieldLength →
     let before = unversioned id size crc time in

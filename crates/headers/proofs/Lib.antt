@@ -1,4 +1,3 @@
 pub mod Fields
-pub mod Littles
 pub mod Checksums
 pub mod Made

@@ -10,8 +10,9 @@ use lib.ListN.{length, drop, getD, length-append, replicate}
 use lib.Seq.{getD-append-seam, getD-append-add, drop-append-add, take-at, take-append-seam}
 use borrow.Author.Tests.{le-leb, eq-eqb, eqb-false, ltb-false}
 use borrow.Table.Steps.{cases}
-use Rattle.wire.specs.Number.{numberAt}
+use Rattle.wire.specs.Number.{bytesOf, numberAt}
 use Rattle.wire.specs.Range.{liesIn}
+use Rattle.wire.proofs.Numbers.{bytes-number}
 use Rattle.crc.specs.Rule.{rule32}
 use Rattle.crc.specs.Crc.{crcOf}
 use Rattle.version.specs.Text.{fieldLength, wellFormed}
@@ -20,13 +21,11 @@ use Rattle.image.specs.Header.{isMarked, flagAt, idAt, sizeAt, crcAt, versionAt
 use Rattle.image.specs.Rule.{validFlag, largestSize, firstBroken}
 use Rattle.image.specs.Valid.{isValid}
 use Rattle.slot.specs.Product.{productInside, productMarked}
-use Rattle.headers.specs.Little.{littleOf}
 use Rattle.headers.specs.ProductHeader.{productHeaderOf}
 use Rattle.headers.specs.ImageHeader.{emptyCode, longCode, headerBytes, imageHeaderOf}
 use Rattle.headers.specs.Made.{MadeImage, MadeProduct}
 use Rattle.headers.proofs.Fields.{field-length}
 use Rattle.headers.proofs.Checksums.{crc-lt}
-use Rattle.headers.proofs.Littles.{little-number}
 
 pub made-product : MadeProduct
 unfolding productInside productMarked liesIn numberAt
@@ -35,8 +34,8 @@ made-product first second front back f s =
     let inside : length front + 12 ≤ 0 + length (front ++ (bytes ++ back)) = simp length-append (omega arith) in (
       rw (le-leb 0 (length front) (omega arith), le-leb _ _ inside),
       simp (getD-append-seam, getD-append-add),
-      simp drop-append-add (little-number 4 first f),
-      simp drop-append-add (little-number 4 second s),
+      simp drop-append-add (bytes-number 4 first f),
+      simp drop-append-add (bytes-number 4 second s),
     )
 
 -- what an image header in a memory says; `rest` is what stands behind it
@@ -54,15 +53,15 @@ says : (front rest version : List ℕ) (id size crc time : ℕ) → length versi
     Says (front ++ (headerBytes id size crc version time ++ rest)) (length front) id size crc version rest
 unfolding numberAt
 says front rest version id size crc time sixteen s c =
-    let behind = littleOf 4 time ++ (replicate 32 0 ++ rest) in
+    let behind = bytesOf 4 time ++ (replicate 32 0 ++ rest) in
     let at-20 : 20 ≡ length version + 4 = omega (arith, sixteen) in
     let at-52 : 52 ≡ length version + 36 = omega (arith, sixteen) in
     record {
       mark = simp (getD-append-seam, getD-append-add);
       flag = simp getD-append-add;
       its-id = simp getD-append-add;
-      its-size = simp drop-append-add (little-number 4 size s);
-      its-crc = simp drop-append-add (little-number 4 crc c);
+      its-size = simp drop-append-add (bytes-number 4 size s);
+      its-crc = simp drop-append-add (bytes-number 4 crc c);
       its-version = simp (drop-append-add, append-assoc) (take-at version behind fieldLength sixteen);
       encrypted = simp (getD-append-add, append-assoc) (ap (λ (k : ℕ). getD (version ++ behind) k 0) at-20 ∙ getD-append-add version behind 4 0);
       code = simp (drop-append-add, append-assoc) (ap (λ (k : ℕ). drop k (version ++ behind)) at-52 ∙ drop-append-add version behind 36);

@@ -1,4 +1,3 @@
-pub mod Little
 pub mod ProductHeader
 pub mod ImageHeader
 pub mod Made

@@ -2,8 +2,8 @@
 -- Assumes nothing.
 use Prim.Native.Nat.{ℕ}
 use mathlib.Core.List.{_∷_, _++_}
+use Rattle.wire.specs.Number.{bytesOf}
 use Rattle.headers.specs.declared.ProductHeader.{ProductHeader}
-use Rattle.headers.specs.Little.{littleOf}
 
 abbrev pub productHeaderOf : (first second : ℕ) → ProductHeader
-productHeaderOf first second = record { bytes = 0x70 ∷ 0x52 ∷ littleOf 2 0 ++ littleOf 4 first ++ littleOf 4 second }
+productHeaderOf first second = record { bytes = 0x70 ∷ 0x52 ∷ bytesOf 2 0 ++ bytesOf 4 first ++ bytesOf 4 second }

@@ -1,10 +1,7 @@
 // Headers that are made: that of an image for a code, and a product header for two offsets.
 ghost use mathlib.Core.Path.{_≡_};
-ghost use Prim.Native.Nat.{_+_, _≤_};
 ghost use lib.ListN.{length};
-ghost use lib.Seq.{sets};
 ghost use Rattle.version.specs.Text.{fieldLength};
-ghost use Rattle.headers.specs.Little.{littleOf};
 ghost use Rattle.headers.specs.ProductHeader.{productHeaderOf};
 ghost use Rattle.headers.specs.ImageHeader.{refused, headerBytes, imageHeaderOf};
 use crc::crc32::crc_of;
@@ -18,6 +15,7 @@ use slot::product::PRODUCT;
 use slot::product::PRODUCT_MARK;
 use version::rank::MALFORMED;
 use version::rank::rank;
+use wire::put::put32;
 
 // The number given where there is no code.
 pub const EMPTY_CODE: u32 = 41;
@@ -35,17 +33,6 @@ pub struct ImageHeader {
 #[repr(C)]
 pub struct ProductHeader {
     pub bytes: [u8; PRODUCT],
-}
-
-// Writes the four bytes of a number, the lowest one first.
-fn put32(out: &mut [u8], place: usize, number: u32)
-    requires { ⌜ place + 4 ≤ length (now out) ⌝ }
-    ensures { λ _. ⌜ now (out .exit) ≡ sets (now (out .entry)) place (littleOf 4 number) ⌝ }
-{
-    out[place] = (number % 256) as u8;
-    out[place + 1] = (number / 256 % 256) as u8;
-    out[place + 2] = (number / 256 / 256 % 256) as u8;
-    out[place + 3] = (number / 256 / 256 / 256 % 256) as u8;
 }
 
 // The product header that names two image offsets.

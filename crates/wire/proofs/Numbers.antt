@@ -1,9 +1,9 @@
 -- Laws of little-endian numbers, over the width.
 -- Assumes nothing.
-use Prim.Native.Nat.{ℕ, zero, suc, _+_, _≤_, _<_}
+use Prim.Native.Nat.{ℕ, zero, suc, _+_, _/_, _^_, _≤_, _<_}
 use mathlib.Core.Path.{_≡_, refl, ap}
 use mathlib.Core.List.{List, [], _∷_}
-use native.Mathlib.Nat.{add-zero, add-suc}
+use native.Mathlib.Nat.{add-zero, add-suc, pow-suc, div-add-mod, div-lt-iff-lt-mul}
 use native.Mathlib.Omega.{arith}
 use lib.ListN.{length, take, drop, getD}
 use lib.Seq.{drop-cons}
@@ -12,7 +12,14 @@ use Rattle.wire.specs.declared.number.Reading.the-variants.{Number, Miss
 use Rattle.wire.specs.declared.range.Place.the-variants.{Inside, Outside}
 use Rattle.wire.specs.Range.{placeIn}
 use Rattle.wire.proofs.Ranges.{range-known, range-over}
-use Rattle.wire.specs.Number.{numberOf, numberAt, readAt}
+use Rattle.wire.specs.Number.{numberOf, bytesOf, numberAt, readAt}
+
+-- the bytes of a number make it again, at every width that it has room in
+pub bytes-number : (width n : ℕ) → n < 256 ^ width → numberOf (bytesOf width n) ≡ n
+bytes-number zero n h = omega (arith, h)
+bytes-number (suc width) n h =
+    let less : n / 256 < 256 ^ width = div-lt-iff-lt-mul {k = 256} {x = n} {y = 256 ^ width} (omega arith) .1 (rw (pow-suc 256 width) at h) in
+    omega (arith, bytes-number width (n / 256) less, div-add-mod n 256)
 
 -- the elements at place + i, place + (i + 1) and so on, `width` of them
 abbrev pub elements : List ℕ → (place i width : ℕ) → List ℕ

@@ -1,6 +1,6 @@
 -- Little-endian numbers (01, "uartboot session" and "Dual image": numbers little-endian), over how many bytes they have.
 -- Assumes nothing.
-use Prim.Native.Nat.{ℕ, _+_, _*_}
+use Prim.Native.Nat.{ℕ, zero, suc, _+_, _*_, _/_, _%_}
 use mathlib.Core.List.{List, [], _∷_}
 use mathlib.Core.Bool.{cond}
 use lib.ListN.{length, take, drop}
@@ -12,6 +12,11 @@ use Rattle.wire.specs.declared.number.Reading.the-variants.{Number, Miss
 abbrev pub numberOf : List ℕ → ℕ
 numberOf [] = 0
 numberOf (b ∷ bs) = b + 256 * numberOf bs
+
+-- the bytes that make a number, the lowest first
+abbrev pub bytesOf : (width n : ℕ) → List ℕ
+bytesOf zero n = []
+bytesOf (suc width) n = n % 256 ∷ bytesOf width (n / 256)
 
 -- the number in the `width` bytes from a place on
 unfoldable pub numberAt : (width : ℕ) (bytes : List ℕ) (place : ℕ) → ℕ

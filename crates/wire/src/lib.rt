@@ -3,5 +3,6 @@
 pub mod length;
 pub mod line;
 pub mod number;
+pub mod put;
 pub mod range;
 pub mod unit;

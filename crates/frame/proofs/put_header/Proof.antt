@@ -7,9 +7,10 @@ use mathlib.Core.Bool.{true, false}
 use native.Mathlib.Omega.{arith}
 use lib.ListN.{length, length-set}
 use borrow.Author.Needs.{needs}
+use Rattle.wire.specs.Number.{bytesOf}
 use Rattle.memory.specs.Store.{laid}
 use Rattle.memory.proofs.Stores.{laid-sets}
-use Rattle.frame.specs.Frame.{pair, isExtended}
+use Rattle.frame.specs.Frame.{isExtended}
 use Rattle.frame.proofs.Frames.{longest-most, extended-from, plain-below, extended-header, plain-header}
 use Rattle.frame.proofs.put_header.Statement.{statement}
 use Rattle.frame.proofs.put_header.Tie as tie
@@ -35,24 +36,24 @@ slice-write-out-2 c = simp length-set (omega (arith, extended-room c))
 slice-write-out-3 : tie.Need-slice-write-out-3
 slice-write-out-3 c = simp length-set (omega (arith, extended-room c))
 
-sub-put-pair : tie.Need-sub-put-pair
-sub-put-pair c = let a = c .before .before .before .before .args in omega (arith, extended-from (a .kind) (a .count) (extended (c .before)))
+sub-put16 : tie.Need-sub-put16
+sub-put16 c = let a = c .before .before .before .before .args in omega (arith, extended-from (a .kind) (a .count) (extended (c .before)))
 
-cast-put-pair : tie.Need-cast-put-pair
-cast-put-pair c = omega (arith, longest-most (c .before .before .before .before .args .kind))
+cast-put16 : tie.Need-cast-put16
+cast-put16 c = omega (arith, longest-most (c .before .before .before .before .args .kind))
 
-put-pair-requires : tie.Need-put-pair-requires
-put-pair-requires c κs = simp length-set (extended-room (c .before))
+put16-requires : tie.Need-put16-requires
+put16-requires c κs = simp length-set (extended-room (c .before))
 
 same-length : tie.Need-same-length
-same-length c = simp (c .before .before .put-pair .ensures, length-set)
+same-length c = simp (c .before .before .put16 .ensures, length-set)
 
 returns : tie.Need-returns
 returns c =
     let test = c .before .before .before .before in
     let a = test .before .before .before .args in
-    c .before .before .put-pair .ensures
-    ∙ laid-sets (0x01 ∷ 0 ∷ 0 ∷ pair (a .count - 65536)) (a .out .now) (extended-room test)
+    c .before .before .put16 .ensures
+    ∙ laid-sets (0x01 ∷ 0 ∷ 0 ∷ bytesOf 2 (a .count - 65536)) (a .out .now) (extended-room test)
     ∙ ap (λ (header : List ℕ). laid header (a .out .now)) (sym (extended-header (a .kind) (a .count) (extended test)))
 
 -- a length that is not extended
@@ -64,23 +65,23 @@ plain-room c =
     let start = c .before .before .before in
     omega (arith, start .pre .1, ap length (plain-header (start .args .kind) (start .args .count) (plain c)))
 
-cast-put-pair-2 : tie.Need-cast-put-pair-2
-cast-put-pair-2 c =
+cast-put16-2 : tie.Need-cast-put16-2
+cast-put16-2 c =
     let start = c .before .before .before .before in
     omega (arith, plain-below (start .args .kind) (start .args .count) (plain (c .before)) (start .pre .0))
 
-put-pair-requires-2 : tie.Need-put-pair-requires-2
-put-pair-requires-2 c κs = simp length-set (plain-room (c .before))
+put16-requires-2 : tie.Need-put16-requires-2
+put16-requires-2 c κs = simp length-set (plain-room (c .before))
 
 same-length-2 : tie.Need-same-length-2
-same-length-2 c = simp (c .before .before .put-pair2 .ensures, length-set)
+same-length-2 c = simp (c .before .before .put162 .ensures, length-set)
 
 returns-2 : tie.Need-returns-2
 returns-2 c =
     let test = c .before .before .before .before in
     let a = test .before .before .before .args in
-    c .before .before .put-pair2 .ensures
-    ∙ laid-sets (0x01 ∷ pair (a .count)) (a .out .now) (plain-room test)
+    c .before .before .put162 .ensures
+    ∙ laid-sets (0x01 ∷ bytesOf 2 (a .count)) (a .out .now) (plain-room test)
     ∙ ap (λ (header : List ℕ). laid header (a .out .now)) (sym (plain-header (a .kind) (a .count) (plain test)))
 
 pub put-header-spec : {M : Type 1} → statement M
@@ -91,12 +92,12 @@ put-header-spec =
     is-extended-requires
     slice-write-out-2
     slice-write-out-3
-    sub-put-pair
-    cast-put-pair
-    put-pair-requires
+    sub-put16
+    cast-put16
+    put16-requires
     same-length
     returns
-    cast-put-pair-2
-    put-pair-requires-2
+    cast-put16-2
+    put16-requires-2
     same-length-2
     returns-2)

@@ -1,11 +1,13 @@
--- `frame::put_pair`: one store after the other.
+-- `wire::put::put16`: one store after the other.
 -- Assumes nothing.
+use Prim.Native.Nat.{_/_, _%_}
+use mathlib.Core.Path.{_≡_}
 use native.Mathlib.Numerals.{add-one}
 use native.Mathlib.Omega.{arith}
 use lib.ListN.{length-set}
 use borrow.Author.Needs.{needs}
-use Rattle.frame.proofs.put_pair.Statement.{statement}
-use Rattle.frame.proofs.put_pair.Tie as tie
+use Rattle.wire.proofs.put.put16.Statement.{statement}
+use Rattle.wire.proofs.put.put16.Tie as tie
 
 cast-out : tie.Need-cast-out
 cast-out c = search needs
@@ -26,9 +28,12 @@ same-length : tie.Need-same-length
 same-length c = search needs
 
 returns : tie.Need-returns
-returns c = rw add-one
+returns c =
+    let n = c .args .number in
+    let high : n / 256 ≡ n / 256 % 256 = omega arith in
+    rw (add-one, ← high)
 
-pub put-pair-spec : {M : Type 1} → statement M
-put-pair-spec =
+pub put16-spec : {M : Type 1} → statement M
+put16-spec =
     tie.close
     (tie.spec cast-out slice-write-out cast-out-2 add-out slice-write-out-2 same-length returns)
