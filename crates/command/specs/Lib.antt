@@ -1,3 +1,3 @@
 pub mod Opcode
 pub mod Payload
-pub mod Demand
+pub mod Check

@@ -1,4 +1,4 @@
 // uartboot's commands: their opcodes, what a payload says, and the checks.
-pub mod demand;
+pub mod check;
 pub mod opcode;
 pub mod payload;

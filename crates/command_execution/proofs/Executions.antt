@@ -22,13 +22,13 @@ use Rattle.command.specs.declared.payload.Command.{Command}
 use Rattle.command.specs.declared.payload.Command.the-variants as command
 use Rattle.command.specs.Opcode.{hasAnswer, isRun}
 use Rattle.command.specs.Payload.{addressAt, offsetAt, writeData, directWriteData, commandOf}
-use Rattle.command.specs.Demand.{demandsOf}
+use Rattle.command.specs.Check.{checksOf}
 use Rattle.command_execution.specs.declared.Ending.{Ending}
 use Rattle.command_execution.specs.declared.Ending.the-variants.{Silent, Answers, Runs, Failed}
 use Rattle.command_execution.specs.Memories.{Memories, Fitting, SameLengths}
 use Rattle.command_execution.specs.Execution.{Executed, ended, isRunning, isAnswering, checked, executed, performed, Answering}
 use Rattle.command_execution.specs.Execution.{placeOf, version, answered, directWritten, verifyDiffers}
-use Rattle.command_execution.proofs.Demands.{Passed, allowed}
+use Rattle.command_execution.proofs.Checks.{Passed, allowed}
 
 -- the command that a payload says, and the reason against it
 module _ (opcode : Opcode) (count : ℕ) (m : Memories) (said : Command) (is-said : said ≡ commandOf opcode count (m .work))
@@ -116,7 +116,7 @@ module _ (opcode : Opcode) (m : Memories) where
   burnt-keeps offset bytes = changed-length (m .flash) offset (burnt bytes) (burnt-length bytes (drop offset (m .flash)))
 
   performed-keeps : (command : Command) → Fitting (length (m .ram)) (length (m .flash)) (length (m .work))
-      → Passed (length (m .ram)) (length (m .flash)) (length (m .work)) (demandsOf command)
+      → Passed (length (m .ram)) (length (m .flash)) (length (m .work)) (checksOf command)
       → isAnswering (performed command m .ending) ≡ hasAnswer opcode → Kept opcode m (performed command m)
   performed-keeps (command.Write address n) fit p has =
       let place = placeOf address in
@@ -156,5 +156,5 @@ pub executed-keeps : (opcode : Opcode) (count : ℕ) (m : Memories) → Fitting 
 executed-keeps opcode count m fit =
     let command = commandOf opcode count (m .work) in
     in-executed (Kept opcode m) opcode count m
-    (λ e. performed-keeps opcode m command fit (allowed _ _ _ (demandsOf command) e) (performed-ends opcode count m .1))
+    (λ e. performed-keeps opcode m command fit (allowed _ _ _ (checksOf command) e) (performed-ends opcode count m .1))
     (λ reason. record { lengths = record { same-ram = refl; same-flash = refl; same-work = refl }; fine = tt })

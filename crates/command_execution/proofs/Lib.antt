@@ -1,4 +1,4 @@
 pub mod DataEnds
-pub mod Demands
+pub mod Checks
 pub mod Ready
 pub mod Executions

@@ -16,7 +16,7 @@ use Rattle.command.specs.declared.payload.Command.{Command}
 use Rattle.command.specs.declared.payload.Command.the-variants.{Write, Read, Copy, Erase, Run, ReadQspi, Version, ChipErase, DirectWrite}
 use Rattle.command.specs.Opcode.{hasAnswer}
 use Rattle.command.specs.Payload.{writeData, directWriteData, commandOf}
-use Rattle.command.specs.Demand.{demandsOf, judged}
+use Rattle.command.specs.Check.{checksOf, judged}
 use Rattle.command_execution.specs.declared.Ending.{Ending}
 use Rattle.command_execution.specs.declared.Ending.the-variants.{Silent, Answers, Runs, Failed}
 use Rattle.command_execution.specs.Memories.{Memories, memories, Fitting}
@@ -83,7 +83,7 @@ performed (DirectWrite verify offset n) m = directWritten verify (offset .0) (pa
 
 -- the reason against a command in these memories
 abbrev pub checked : Command → Memories → ℕ
-checked command m = judged (length (m .ram)) (length (m .flash)) (length (m .work)) (demandsOf command)
+checked command m = judged (length (m .ram)) (length (m .flash)) (length (m .work)) (checksOf command)
 
 abbrev pub performedIf : (reason : ℕ) → Command → Memories → Executed
 performedIf reason command m = cond (eqb reason 0) (performed command m) (ended (Failed reason) m)
@@ -106,7 +106,7 @@ dataEnd (DirectWrite verify offset n) = directWriteData + n
 
 -- a command whose checks passed, in memories of these lengths
 pub record Allowed (command : Command) (ram flash work : ℕ) : Type 0 where
-  pub passes : judged ram flash work (demandsOf command) ≡ 0
+  pub passes : judged ram flash work (checksOf command) ≡ 0
   pub data-in : dataEnd command ≤ work
   pub fitting : Fitting ram flash work
 

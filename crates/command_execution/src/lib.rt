@@ -9,7 +9,7 @@ ghost use Rattle.wire.specs.Unit.{ramBase};
 ghost use Rattle.command.specs.Payload.{Carried};
 ghost use Rattle.command_execution.specs.Memories.{memories, Fitting};
 ghost use Rattle.command_execution.specs.Execution.{ended, verified, performed, executed, Allowed};
-use command::demand::check;
+use command::check::check;
 use command::opcode::Opcode;
 use command::payload::Command;
 use command::payload::DIRECT_WRITE_DATA;

@@ -8,7 +8,7 @@ use Rattle.crc.specs.Register.{leaving, moved, placed, afterBit, afterBits, aft
 use Rattle.crc.specs.Crc.{crcOf}
 use Rattle.memory.specs.Flash.{erased}
 use Rattle.command.specs.Opcode.{opcodeOf}
-use Rattle.command.specs.Demand.{judged}
+use Rattle.command.specs.Check.{judged}
 use Rattle.command_execution.specs.Execution.{executed}
 use Rattle.version.specs.Text.{isNumber, wellFormed}
 use Rattle.version.specs.Rank.{rankOf}

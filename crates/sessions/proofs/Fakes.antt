@@ -18,7 +18,7 @@ use Rattle.wire.proofs.Bytes.{areBytes, are-bytes}
 use Rattle.machine.specs.Lawful.{Every}
 use Rattle.machine.specs.Words.{wordsOf}
 use Rattle.rom_record.specs.Record as rom-record
-use Rattle.command.specs.Demand.{judged}
+use Rattle.command.specs.Check.{judged}
 use Rattle.command.specs.Opcode.{opcodeOf}
 use Rattle.command_execution.specs.Execution.{executed}
 use Rattle.uartboot_flow.specs.Fresh.{freshRecord}

@@ -9,7 +9,7 @@ use Rattle.wire.specs.Range.{liesIn}
 use Rattle.machine.specs.Outcome.{halt}
 use Rattle.machine.specs.History.{here, trace}
 use Rattle.machine.proofs.Paths.{traced}
-use Rattle.command.specs.Demand.{judged}
+use Rattle.command.specs.Check.{judged}
 use Rattle.command.specs.Opcode.{opcodeOf}
 use Rattle.uartboot_flow.specs.Fresh.{fresh}
 use Rattle.uartboot_flow.specs.Device.{device}

@@ -9,7 +9,7 @@ ghost use Rattle.uartboot_flow.specs.Device.{device};
 ghost use Rattle.uartboot_flow.specs.Flow as flow;
 ghost use Rattle.uartboot_flow.specs.State.{state};
 ghost use Rattle.uartboot_flow.specs.Gives.{stateOf};
-use command::demand::check;
+use command::check::check;
 use command::opcode::Opcode;
 use command::payload::command_of;
 use memory::copy::copy_up_to;

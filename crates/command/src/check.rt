@@ -1,6 +1,6 @@
-// The checks of a command, by what it demands of the memories.
+// The checks of a command.
 ghost use mathlib.Core.Path.{_≡_};
-ghost use Rattle.command.specs.Demand.{demands, demandsOf, judged};
+ghost use Rattle.command.specs.Check.{checks, checksOf, judged};
 use crate::payload::Command;
 use wire::range::Place;
 use wire::unit::FlashOffset;
@@ -20,7 +20,7 @@ pub const OUTSIDE_MEMORY: u32 = 16;
 pub const LONG_ANSWER: u32 = 17;
 
 // What is tested of a command: its verify byte, its count, its range in RAM, its range in flash, and how long its answer is.
-pub struct Demands {
+pub struct Checks {
     pub verify: u8,
     pub count: u32,
     pub address: RamAddress,
@@ -30,7 +30,7 @@ pub struct Demands {
     pub answer: u32,
 }
 
-fn demand(
+fn tested(
     verify: u8,
     count: u32,
     address: RamAddress,
@@ -38,10 +38,10 @@ fn demand(
     offset: FlashOffset,
     flash: u32,
     answer: u32,
-) -> Demands
-    ensures { λ r. ⌜ r ≡ demands verify count address ram offset flash answer ⌝ }
+) -> Checks
+    ensures { λ r. ⌜ r ≡ checks verify count address ram offset flash answer ⌝ }
 {
-    Demands {
+    Checks {
         verify: verify,
         count: count,
         address: address,
@@ -52,42 +52,42 @@ fn demand(
     }
 }
 
-// What is tested of a command; one without a range in a memory demands no byte of it.
-fn demands_of(command: Command) -> Demands
-    ensures { λ r. ⌜ r ≡ demandsOf command ⌝ }
+// What is tested of a command; one without a range in a memory has an empty one at its start.
+fn checks_of(command: Command) -> Checks
+    ensures { λ r. ⌜ r ≡ checksOf command ⌝ }
 {
     let first = RamAddress(RAM_BASE);
     let start = FlashOffset(0);
     match command {
-        Command::Write(address, n) => demand(0, n, address, n, start, 0, 0),
-        Command::Read(address, n) => demand(0, n, address, n, start, 0, n),
-        Command::Copy(address, n, offset) => demand(0, n, address, n, offset, n, 0),
-        Command::Erase(offset, n) => demand(0, n, first, 0, offset, n, 0),
-        Command::Run(address) => demand(0, 1, address, 1, start, 0, 0),
-        Command::ReadQspi(offset, n) => demand(0, n, first, 0, offset, n, n),
-        Command::Version => demand(0, 1, first, 0, start, 0, 7),
-        Command::ChipErase => demand(0, 1, first, 0, start, 0, 0),
-        Command::DirectWrite(verify, offset, n) => demand(verify, n, first, 0, offset, n, 0),
+        Command::Write(address, n) => tested(0, n, address, n, start, 0, 0),
+        Command::Read(address, n) => tested(0, n, address, n, start, 0, n),
+        Command::Copy(address, n, offset) => tested(0, n, address, n, offset, n, 0),
+        Command::Erase(offset, n) => tested(0, n, first, 0, offset, n, 0),
+        Command::Run(address) => tested(0, 1, address, 1, start, 0, 0),
+        Command::ReadQspi(offset, n) => tested(0, n, first, 0, offset, n, n),
+        Command::Version => tested(0, 1, first, 0, start, 0, 7),
+        Command::ChipErase => tested(0, 1, first, 0, start, 0, 0),
+        Command::DirectWrite(verify, offset, n) => tested(verify, n, first, 0, offset, n, 0),
     }
 }
 
 // The reason of the first test that fails, by the lengths of the memories; 0 where none does.
-fn judge(d: Demands, ram: usize, flash: usize, work: usize) -> u32
-    ensures { λ r. ⌜ r ≡ judged ram flash work d ⌝ }
+fn judge(c: Checks, ram: usize, flash: usize, work: usize) -> u32
+    ensures { λ r. ⌜ r ≡ judged ram flash work c ⌝ }
 {
-    if 1 < d.verify {
+    if 1 < c.verify {
         return BAD_VERIFY;
     }
-    if d.count == 0 {
+    if c.count == 0 {
         return EMPTY_RANGE;
     }
-    let Place::Inside(_) = d.address.place(d.ram as usize, ram) else {
+    let Place::Inside(_) = c.address.place(c.ram as usize, ram) else {
         return OUTSIDE_MEMORY;
     };
-    let Place::Inside(_) = d.offset.place(d.flash as usize, flash) else {
+    let Place::Inside(_) = c.offset.place(c.flash as usize, flash) else {
         return OUTSIDE_MEMORY;
     };
-    if work < (d.answer as usize) {
+    if work < (c.answer as usize) {
         return LONG_ANSWER;
     }
     0
@@ -95,7 +95,7 @@ fn judge(d: Demands, ram: usize, flash: usize, work: usize) -> u32
 
 // The reason against a command, by the lengths of the memories; 0 where there is none.
 pub fn check(command: Command, ram: usize, flash: usize, work: usize) -> u32
-    ensures { λ r. ⌜ r ≡ judged ram flash work (demandsOf command) ⌝ }
+    ensures { λ r. ⌜ r ≡ judged ram flash work (checksOf command) ⌝ }
 {
-    judge(demands_of(command), ram, flash, work)
+    judge(checks_of(command), ram, flash, work)
 }

@@ -9,7 +9,7 @@ use Rattle.wire.specs.declared.unit.RamAddress.{RamAddress}
 use Rattle.wire.specs.declared.unit.FlashOffset.{FlashOffset}
 use Rattle.command.specs.declared.payload.Command.{Command}
 use Rattle.command.specs.declared.payload.Command.the-variants.{Write, Read, Copy, Erase, Run, ReadQspi, Version, ChipErase, DirectWrite}
-use Rattle.command.specs.declared.demand.Demands.{Demands}
+use Rattle.command.specs.declared.check.Checks.{Checks}
 
 -- verify is neither 0 nor 1; a count or size is 0; a range is not wholly in its memory; the answer is longer than the work buffer
 abbrev pub badVerify : ℕ
@@ -24,8 +24,8 @@ outsideMemory = 16
 abbrev pub longAnswer : ℕ
 longAnswer = 17
 
-abbrev pub demands : (verify count : ℕ) (address : RamAddress) (ram : ℕ) (offset : FlashOffset) (flash answer : ℕ) → Demands
-demands verify count address ram offset flash answer =
+abbrev pub checks : (verify count : ℕ) (address : RamAddress) (ram : ℕ) (offset : FlashOffset) (flash answer : ℕ) → Checks
+checks verify count address ram offset flash answer =
     record { verify = verify; count = count; address = address; ram = ram; offset = offset; flash = flash; answer = answer }
 
 -- for a command without a range in flash; one without a range in RAM has RAM's first address
@@ -33,23 +33,23 @@ abbrev pub firstOffset : FlashOffset
 firstOffset = record { 0 = 0 }
 
 -- what is tested of a command: its verify byte, its count, its range in RAM, its range in flash, and how long its answer is
-abbrev pub demandsOf : Command → Demands
-demandsOf (Write address n) = demands 0 n address n firstOffset 0 0
-demandsOf (Read address n) = demands 0 n address n firstOffset 0 n
-demandsOf (Copy address n offset) = demands 0 n address n offset n 0
-demandsOf (Erase offset n) = demands 0 n firstAddress 0 offset n 0
-demandsOf (Run address) = demands 0 1 address 1 firstOffset 0 0
-demandsOf (ReadQspi offset n) = demands 0 n firstAddress 0 offset n n
-demandsOf Version = demands 0 1 firstAddress 0 firstOffset 0 7
-demandsOf ChipErase = demands 0 1 firstAddress 0 firstOffset 0 0
-demandsOf (DirectWrite verify offset n) = demands verify n firstAddress 0 offset n 0
+abbrev pub checksOf : Command → Checks
+checksOf (Write address n) = checks 0 n address n firstOffset 0 0
+checksOf (Read address n) = checks 0 n address n firstOffset 0 n
+checksOf (Copy address n offset) = checks 0 n address n offset n 0
+checksOf (Erase offset n) = checks 0 n firstAddress 0 offset n 0
+checksOf (Run address) = checks 0 1 address 1 firstOffset 0 0
+checksOf (ReadQspi offset n) = checks 0 n firstAddress 0 offset n n
+checksOf Version = checks 0 1 firstAddress 0 firstOffset 0 7
+checksOf ChipErase = checks 0 1 firstAddress 0 firstOffset 0 0
+checksOf (DirectWrite verify offset n) = checks verify n firstAddress 0 offset n 0
 
 -- the reason of the first test that fails, in memories of these lengths; 0 where none does
-unfoldable pub judged : (ram flash work : ℕ) → Demands → ℕ
-judged ram flash work d =
-    cond (ltb 1 (d .verify)) badVerify
-    (cond (eqb (d .count) 0) emptyRange
-    (cond (not (liesIn (d .address .0) (d .ram) ramBase ram)) outsideMemory
-    (cond (not (liesIn (d .offset .0) (d .flash) 0 flash)) outsideMemory
-    (cond (ltb work (d .answer)) longAnswer
+unfoldable pub judged : (ram flash work : ℕ) → Checks → ℕ
+judged ram flash work c =
+    cond (ltb 1 (c .verify)) badVerify
+    (cond (eqb (c .count) 0) emptyRange
+    (cond (not (liesIn (c .address .0) (c .ram) ramBase ram)) outsideMemory
+    (cond (not (liesIn (c .offset .0) (c .flash) 0 flash)) outsideMemory
+    (cond (ltb work (c .answer)) longAnswer
     0))))

@@ -1,4 +1,4 @@
--- `command::demand::judge`: each return by the tests that led there.
+-- `command::check::judge`: each return by the tests that led there.
 -- Assumes nothing.
 use mathlib.Core.Path.{_≡_, sym, _∙_}
 use mathlib.Core.Bool.{true, false}
@@ -7,34 +7,34 @@ use borrow.Author.Tests.{lt-ltb, le-ltb, eq-eqb, ne-eqb}
 use Rattle.wire.specs.Range.{liesIn}
 use Rattle.wire.specs.Unit.{ramBase}
 use Rattle.wire.proofs.Ranges.{lies-inside, lies-outside}
-use Rattle.command.specs.Demand.{judged}
+use Rattle.command.specs.Check.{judged}
 use borrow.Author.Needs.{needs}
-use Rattle.command.proofs.demand.judge.Statement.{statement}
-use Rattle.command.proofs.demand.judge.Tie as tie
+use Rattle.command.proofs.check.judge.Statement.{statement}
+use Rattle.command.proofs.check.judge.Tie as tie
 
 -- the tests of verify and count passed
-known : (c : tie.Else2) → ltb 1 (c .before .before .before .before .args .d .verify) ≡ false
+known : (c : tie.Else2) → ltb 1 (c .before .before .before .before .args .c .verify) ≡ false
 known c = le-ltb _ _ (c .before .before .if1 .left)
 
-some : (c : tie.Else2) → eqb (c .before .before .before .before .args .d .count) 0 ≡ false
+some : (c : tie.Else2) → eqb (c .before .before .before .before .args .c .count) 0 ≡ false
 some c = ne-eqb _ _ (c .if2 .left)
 
 -- the range in RAM lies there, and so does the range in flash
 in-ram : (c : tie.After-enum-told)
     → let a = c .before .before .before .before .before .before .before .before .args in
-    liesIn (a .d .address .0) (a .d .ram) ramBase (a .ram) ≡ true
+    liesIn (a .c .address .0) (a .c .ram) ramBase (a .ram) ≡ true
 in-ram c =
     let a = c .before .before .before .before .before .before .before .before .args in
     let found = c .enum-told .given in
-    lies-inside (a .d .address .0) (a .d .ram) ramBase (a .ram) (found .0 .0) (sym (c .before .before .place .ensures) ∙ found .1)
+    lies-inside (a .c .address .0) (a .c .ram) ramBase (a .ram) (found .0 .0) (sym (c .before .before .place .ensures) ∙ found .1)
 
 in-flash : (c : tie.After-enum-told3)
     → let a = c .before .before .before .before .before .before .before .before .before .before .before .before .args in
-    liesIn (a .d .offset .0) (a .d .flash) 0 (a .flash) ≡ true
+    liesIn (a .c .offset .0) (a .c .flash) 0 (a .flash) ≡ true
 in-flash c =
     let a = c .before .before .before .before .before .before .before .before .before .before .before .before .args in
     let found = c .enum-told3 .given in
-    lies-inside (a .d .offset .0) (a .d .flash) 0 (a .flash) (found .0 .0) (sym (c .before .before .place2 .ensures) ∙ found .1)
+    lies-inside (a .c .offset .0) (a .c .flash) 0 (a .flash) (found .0 .0) (sym (c .before .before .place2 .ensures) ∙ found .1)
 
 returns : tie.Need-returns
 unfolding judged
@@ -63,7 +63,7 @@ returns-3 c =
     let tested = found .before .before in
     let a = tested .before .before .before .before .args in
     let none = sym (found .place .ensures) ∙ c .enum-told2 .given .1 in
-    let outside = lies-outside (a .d .address .0) (a .d .ram) ramBase (a .ram) none in
+    let outside = lies-outside (a .c .address .0) (a .c .ram) ramBase (a .ram) none in
     simp (known tested, some tested, outside)
 
 cast-place-2 : tie.Need-cast-place-2
@@ -86,7 +86,7 @@ returns-4 c =
     let tested = placed .before .before .before .before in
     let a = tested .before .before .before .before .args in
     let none = sym (found .place2 .ensures) ∙ c .enum-told4 .given .1 in
-    let outside = lies-outside (a .d .offset .0) (a .d .flash) 0 (a .flash) none in
+    let outside = lies-outside (a .c .offset .0) (a .c .flash) 0 (a .flash) none in
     simp (known tested, some tested, in-ram placed, outside)
 
 cast-if3 : tie.Need-cast-if3
