@@ -8,6 +8,13 @@ use Rattle.command.specs.declared.opcode.Opcode.the-variants.{Write, Rea
 use Rattle.command.specs.declared.opcode.Lookup.{Lookup}
 use Rattle.command.specs.declared.opcode.Lookup.the-variants.{Known, Unknown}
 
+-- unknown opcode; a length that the opcode doesn't have
+abbrev pub unknownOpcode : ℕ
+unknownOpcode = 11
+
+abbrev pub badLength : ℕ
+badLength = 12
+
 abbrev pub opcodeNumber : Opcode → ℕ
 opcodeNumber Write = 0x01
 opcodeNumber Read = 0x02

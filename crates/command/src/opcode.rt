@@ -2,6 +2,12 @@
 ghost use mathlib.Core.Path.{_≡_};
 ghost use Rattle.command.specs.Opcode.{opcodeNumber, opcodeOf, hasLength, hasAnswer};
 
+// The reason where the opcode is unknown.
+pub const UNKNOWN_OPCODE: u32 = 11;
+
+// The reason where the opcode doesn't have the length.
+pub const BAD_LENGTH: u32 = 12;
+
 pub enum Opcode {
     Write,
     Read,

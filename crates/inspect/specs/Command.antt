@@ -9,9 +9,8 @@ use Rattle.command.specs.declared.opcode.Lookup.{Lookup}
 use Rattle.command.specs.declared.opcode.Lookup.the-variants.{Known, Unknown}
 use Rattle.command.specs.declared.payload.Command.{Command}
 use Rattle.command.specs.declared.payload.Command.the-variants.{Write, Read, Copy, Erase, Run, ReadQspi, Version, ChipErase, DirectWrite}
-use Rattle.command.specs.Opcode.{opcodeOf, hasLength}
+use Rattle.command.specs.Opcode.{unknownOpcode, badLength, opcodeOf, hasLength}
 use Rattle.command.specs.Payload.{commandOf}
-use Rattle.uartboot_flow.specs.Flow.{unknownOpcode, badLength}
 use Rattle.inspect.specs.declared.payload.CommandRead.{CommandRead}
 
 -- the longest payload whose length a header's two bytes can say

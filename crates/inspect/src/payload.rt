@@ -1,13 +1,13 @@
 // What a command's payload says.
 ghost use mathlib.Core.Path.{_≡_};
 ghost use Rattle.inspect.specs.Command.{refused, says, numbersOf, readCommand};
+use command::opcode::BAD_LENGTH;
 use command::opcode::Lookup;
+use command::opcode::UNKNOWN_OPCODE;
 use command::opcode::has_length;
 use command::opcode::opcode_of;
 use command::payload::Command;
 use command::payload::command_of;
-use uartboot_flow::reason::BAD_LENGTH;
-use uartboot_flow::reason::UNKNOWN_OPCODE;
 
 // The longest payload whose length two bytes can say.
 const LONGEST: usize = 65_535;

@@ -15,7 +15,7 @@ use Rattle.machine.proofs.Doing.{Leaves}
 use Rattle.command.specs.declared.opcode.Opcode.{Opcode}
 use Rattle.command.specs.declared.opcode.Lookup.{Lookup}
 use Rattle.command.specs.declared.opcode.Lookup.the-variants.{Known, Unknown}
-use Rattle.command.specs.Opcode.{opcodeOf, hasLength}
+use Rattle.command.specs.Opcode.{unknownOpcode, badLength, opcodeOf, hasLength}
 use Rattle.command.specs.Payload.{Carried, commandOf}
 use Rattle.command_execution.specs.declared.Ending.{Ending}
 use Rattle.command_execution.specs.declared.Ending.the-variants.{Silent, Answers, Runs, Failed}
@@ -31,7 +31,7 @@ use Rattle.uartboot_flow.specs.declared.step.CommandStep.the-variants.{S
 use Rattle.uartboot_flow.specs.declared.step.AnswerStep.{AnswerStep}
 use Rattle.uartboot_flow.specs.declared.step.AnswerStep.the-variants as a
 use Rattle.uartboot_flow.specs.State.{State, state}
-use Rattle.uartboot_flow.specs.Flow.{unknownOpcode, badLength, longPayload, crcDiffers, notAcked, crc16, first, goes, refuses, ends, executes, headed, header, arrived, stored, command, showed, answer, doesAt, does}
+use Rattle.uartboot_flow.specs.Flow.{longPayload, crcDiffers, notAcked, crc16, first, goes, refuses, ends, executes, headed, header, arrived, stored, command, showed, answer, doesAt, does}
 use Rattle.uartboot_flow.specs.Sound.{SoundStep, SoundAnswer, Ready}
 
 abbrev Fits : Memories → Type 0

@@ -1,5 +1,5 @@
--- uartboot's flow (01, "uartboot session", steps 1 to 5, and "Numbers given back": reasons 11, 12, 13, 19 and 20; those of a command
--- and of its execution stand with the command). Each line says what a step does: it takes a byte, and the byte says where the flow
+-- uartboot's flow (01, "uartboot session", steps 1 to 5, and "Numbers given back": reasons 13, 19 and 20; those of an opcode, of a
+-- command and of its execution stand with these). Each line says what a step does: it takes a byte, and the byte says where the flow
 -- goes, or it sends a byte and goes on.
 -- Assumes nothing.
 use Prim.Native.Nat.{ℕ, _+_, _*_, _/_, _%_}
@@ -14,7 +14,7 @@ use Rattle.machine.specs.Does.{Does, takes, sends, runs, tookOf}
 use Rattle.command.specs.declared.opcode.Opcode.{Opcode}
 use Rattle.command.specs.declared.opcode.Lookup.{Lookup}
 use Rattle.command.specs.declared.opcode.Lookup.the-variants.{Known, Unknown}
-use Rattle.command.specs.Opcode.{opcodeOf, hasLength}
+use Rattle.command.specs.Opcode.{unknownOpcode, badLength, opcodeOf, hasLength}
 use Rattle.command.specs.Payload.{commandOf}
 use Rattle.command_execution.specs.declared.Ending.{Ending}
 use Rattle.command_execution.specs.declared.Ending.the-variants.{Silent, Answers, Runs, Failed}
@@ -37,13 +37,7 @@ greetingLength = 4
 abbrev pub greeting : (place : ℕ) → ℕ
 greeting place = cond (eqb place 0) 0x02 (cond (eqb place 1) 0x01 (cond (eqb place 2) 0x00 0x03))
 
--- unknown opcode; a length that the opcode doesn't have; a length above the work buffer; the host's CRC differs; a byte other than 06
-abbrev pub unknownOpcode : ℕ
-unknownOpcode = 11
-
-abbrev pub badLength : ℕ
-badLength = 12
-
+-- a length above the work buffer; the host's CRC differs; a byte other than 06
 abbrev pub longPayload : ℕ
 longPayload = 13
 

@@ -1,10 +1,4 @@
-// The reasons that the flow itself notes; those of a command and of its execution stand with the command.
-
-// The reason where the opcode is unknown.
-pub const UNKNOWN_OPCODE: u32 = 11;
-
-// The reason where the opcode doesn't have the length.
-pub const BAD_LENGTH: u32 = 12;
+// The reasons that the flow itself notes; those of an opcode, of a command and of its execution stand with these.
 
 // The reason where the length is above the work buffer's.
 pub const LONG_PAYLOAD: u32 = 13;
