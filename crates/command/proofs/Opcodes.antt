@@ -1,17 +1,20 @@
--- Laws of the opcodes: their numbers, and the shortest payloads that they have.
+-- Laws of the opcodes: their numbers, and the payloads that they have.
 -- Assumes nothing.
-use Prim.Native.Nat.{ℕ, _≤_}
+use Prim.Native.Nat.{ℕ, suc, _≤_, _<_}
 use mathlib.Core.Path.{_≡_, refl}
-use mathlib.Core.Bool.{true, cond}
-use lib.Dec.{eqb}
+use mathlib.Core.Bool.{Bool, true, false, cond}
+use mathlib.Core.List.{List, [], _∷_}
+use lib.Dec.{eqb, ltb}
+use lib.ListN.{length, drop, getD}
+use lib.Seq.{drop-cons}
 use native.Mathlib.Omega.{arith}
-use borrow.Author.Tests.{eqb-true, leb-true}
+use borrow.Author.Tests.{eqb-true, ltb-true, eq-eqb, ne-eqb}
 use Rattle.wire.proofs.Tests.{in-cond}
 use Rattle.command.specs.declared.opcode.Opcode.{Opcode}
 use Rattle.command.specs.declared.opcode.Opcode.the-variants.{Write, Read, Copy, Erase, Run, ReadQspi, Version, ChipErase, DirectWrite}
 use Rattle.command.specs.declared.opcode.Lookup.{Lookup}
 use Rattle.command.specs.declared.opcode.Lookup.the-variants.{Known}
-use Rattle.command.specs.Opcode.{opcodeNumber, opcodeOf, hasLength}
+use Rattle.command.specs.Opcode.{shapeOf, opcodes, opcodeNumber, amongThese, opcodeOf, hasLength, dataPlace}
 
 -- an opcode's number stands for it, and no other number does
 pub opcode-back : (opcode : Opcode) → opcodeOf (opcodeNumber opcode) ≡ Known opcode
@@ -26,37 +29,29 @@ opcode-back Version = refl
 opcode-back ChipErase = refl
 opcode-back DirectWrite = refl
 
-pub opcode-number : (n : ℕ) (opcode : Opcode) → opcodeOf n ≡ Known opcode → n ≡ opcodeNumber opcode
+-- a list of opcodes is gone through: the one at a place has the number, or those behind it are left
+module _ (these : List Opcode) (i n : ℕ) (h : i < length these) where
+  pub found-here : opcodeNumber (getD these i Write) ≡ n → amongThese (drop i these) n ≡ Known (getD these i Write)
+  found-here e = rw (drop-cons these i Write h, eq-eqb _ _ e) refl
+
+  pub found-behind : (opcodeNumber (getD these i Write) ≡ n → ⊥) → amongThese (drop i these) n ≡ amongThese (drop (suc i) these) n
+  found-behind e = rw (drop-cons these i Write h, ne-eqb _ _ e) refl
+
+found-number : (these : List Opcode) (n : ℕ) (opcode : Opcode) → amongThese these n ≡ Known opcode → opcodeNumber opcode ≡ n
+found-number [] n opcode = λ e. cc
+found-number (o ∷ others) n opcode =
+    in-cond (λ (l : Lookup). l ≡ Known opcode → opcodeNumber opcode ≡ n) (eqb (opcodeNumber o) n) (Known o) (amongThese others n)
+    (λ t e. let same : opcodeNumber o ≡ n = eqb-true (opcodeNumber o) n t in cc)
+    (λ t. found-number others n opcode)
+
+pub opcode-number : (n : ℕ) (opcode : Opcode) → opcodeOf n ≡ Known opcode → opcodeNumber opcode ≡ n
 unfolding opcodeOf
-opcode-number n opcode =
-    or Write (or Read (or Copy (or Erase (or Run (or ReadQspi (or Version (or ChipErase (or DirectWrite (λ e. cc)))))))))
-  where
-    or : (o : Opcode) {rest : Lookup} → (rest ≡ Known opcode → n ≡ opcodeNumber opcode)
-        → cond (eqb n (opcodeNumber o)) (Known o) rest ≡ Known opcode → n ≡ opcodeNumber opcode
-    or o {rest} f =
-        in-cond (λ (l : Lookup). l ≡ Known opcode → n ≡ opcodeNumber opcode) (eqb n (opcodeNumber o)) (Known o) rest
-        (λ t e. let same : n ≡ opcodeNumber o = eqb-true n (opcodeNumber o) t in cc)
-        (λ t. f)
+opcode-number n opcode e = found-number opcodes n opcode e
 
--- the shortest payload that an opcode has
-abbrev pub shortest : Opcode → ℕ
-shortest Write = 5
-shortest Read = 6
-shortest Copy = 10
-shortest Erase = 8
-shortest Run = 4
-shortest ReadQspi = 6
-shortest Version = 0
-shortest ChipErase = 0
-shortest DirectWrite = 6
+long-enough : (more : Bool) (fixed n : ℕ) → cond more (ltb fixed n) (eqb n fixed) ≡ true → fixed ≤ n
+long-enough true fixed n e = omega (arith, ltb-true fixed n e)
+long-enough false fixed n e = omega (arith, eqb-true n fixed e)
 
-pub never-shorter : (opcode : Opcode) (n : ℕ) → hasLength opcode n ≡ true → shortest opcode ≤ n
-never-shorter Write n e = leb-true 5 n e
-never-shorter Read n e = omega (arith, eqb-true n 6 e)
-never-shorter Copy n e = omega (arith, eqb-true n 10 e)
-never-shorter Erase n e = omega (arith, eqb-true n 8 e)
-never-shorter Run n e = omega (arith, eqb-true n 4 e)
-never-shorter ReadQspi n e = omega (arith, eqb-true n 6 e)
-never-shorter Version n e = omega arith
-never-shorter ChipErase n e = omega arith
-never-shorter DirectWrite n e = leb-true 6 n e
+-- a payload holds its numbers
+pub never-shorter : (opcode : Opcode) (n : ℕ) → hasLength opcode n ≡ true → dataPlace opcode ≤ n
+never-shorter opcode n e = long-enough (shapeOf opcode .2) (dataPlace opcode) n e

@@ -3,6 +3,7 @@
 use Prim.Native.Nat.{ℕ}
 use mathlib.Core.Bool.{cond, not}
 use lib.Dec.{eqb, ltb}
+use lib.ListN.{length}
 use Rattle.wire.specs.Range.{liesIn}
 use Rattle.wire.specs.Unit.{ramBase, firstAddress}
 use Rattle.wire.specs.declared.unit.RamAddress.{RamAddress}
@@ -10,6 +11,7 @@ use Rattle.wire.specs.declared.unit.FlashOffset.{FlashOffset}
 use Rattle.command.specs.declared.payload.Command.{Command}
 use Rattle.command.specs.declared.payload.Command.the-variants.{Write, Read, Copy, Erase, Run, ReadQspi, Version, ChipErase, DirectWrite}
 use Rattle.command.specs.declared.check.Checks.{Checks}
+use Rattle.command.specs.Version.{version}
 
 -- verify is neither 0 nor 1; a count or size is 0; a range is not wholly in its memory; the answer is longer than the work buffer
 abbrev pub badVerify : ℕ
@@ -40,7 +42,7 @@ checksOf (Copy address n offset) = checks 0 n address n offset n 0
 checksOf (Erase offset n) = checks 0 n firstAddress 0 offset n 0
 checksOf (Run address) = checks 0 1 address 1 firstOffset 0 0
 checksOf (ReadQspi offset n) = checks 0 n firstAddress 0 offset n n
-checksOf Version = checks 0 1 firstAddress 0 firstOffset 0 7
+checksOf Version = checks 0 1 firstAddress 0 firstOffset 0 (length version)
 checksOf ChipErase = checks 0 1 firstAddress 0 firstOffset 0 0
 checksOf (DirectWrite verify offset n) = checks verify n firstAddress 0 offset n 0
 

@@ -1,3 +1,4 @@
 pub mod Opcode
 pub mod Payload
+pub mod Version
 pub mod Check

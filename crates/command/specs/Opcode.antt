@@ -1,10 +1,13 @@
--- The nine opcodes (01, "uartboot session": the table; reasons 11 and 12).
+-- The nine opcodes, a row for each (01, "uartboot session": the table; reasons 11 and 12).
 -- Assumes nothing.
 use Prim.Native.Nat.{ℕ}
+use mathlib.Core.Path.{_≡_}
 use mathlib.Core.Bool.{Bool, true, false, cond}
-use lib.Dec.{eqb, leb}
+use mathlib.Core.List.{List, [], _∷_}
+use lib.Dec.{eqb, ltb}
 use Rattle.command.specs.declared.opcode.Opcode.{Opcode}
 use Rattle.command.specs.declared.opcode.Opcode.the-variants.{Write, Read, Copy, Erase, Run, ReadQspi, Version, ChipErase, DirectWrite}
+use Rattle.command.specs.declared.opcode.Shape.{Shape}
 use Rattle.command.specs.declared.opcode.Lookup.{Lookup}
 use Rattle.command.specs.declared.opcode.Lookup.the-variants.{Known, Unknown}
 
@@ -15,60 +18,53 @@ unknownOpcode = 11
 abbrev pub badLength : ℕ
 badLength = 12
 
+abbrev pub shape : (number fixed : ℕ) (more answers : Bool) → Shape
+shape number fixed more answers = record { 0 = number; 1 = fixed; 2 = more; 3 = answers }
+
+-- an opcode's number, how many bytes its payload's numbers take, whether data, of 1 byte or more, follow them, and whether it has an answer
+abbrev pub shapeOf : Opcode → Shape
+shapeOf Write = shape 0x01 4 true false
+shapeOf Read = shape 0x02 6 false true
+shapeOf Copy = shape 0x03 10 false false
+shapeOf Erase = shape 0x04 8 false false
+shapeOf Run = shape 0x05 4 false false
+shapeOf ReadQspi = shape 0x08 6 false true
+shapeOf Version = shape 0x0B 0 false true
+shapeOf ChipErase = shape 0x0C 0 false false
+shapeOf DirectWrite = shape 0x12 5 true false
+
+-- the same row
+pub record SameShape (a b : Shape) : Type 0 where
+  pub same-number : a .0 ≡ b .0
+  pub same-fixed : a .1 ≡ b .1
+  pub same-more : a .2 ≡ b .2
+  pub same-answers : a .3 ≡ b .3
+
+-- all nine
+abbrev pub opcodes : List Opcode
+opcodes = Write ∷ Read ∷ Copy ∷ Erase ∷ Run ∷ ReadQspi ∷ Version ∷ ChipErase ∷ DirectWrite ∷ []
+
 abbrev pub opcodeNumber : Opcode → ℕ
-opcodeNumber Write = 0x01
-opcodeNumber Read = 0x02
-opcodeNumber Copy = 0x03
-opcodeNumber Erase = 0x04
-opcodeNumber Run = 0x05
-opcodeNumber ReadQspi = 0x08
-opcodeNumber Version = 0x0B
-opcodeNumber ChipErase = 0x0C
-opcodeNumber DirectWrite = 0x12
+opcodeNumber opcode = shapeOf opcode .0
+
+-- the first of these opcodes that has the number
+abbrev pub amongThese : List Opcode → (number : ℕ) → Lookup
+amongThese [] number = Unknown
+amongThese (opcode ∷ others) number = cond (eqb (opcodeNumber opcode) number) (Known opcode) (amongThese others number)
 
 unfoldable pub opcodeOf : (number : ℕ) → Lookup
-opcodeOf number =
-    cond (eqb number 0x01) (Known Write)
-    (cond (eqb number 0x02) (Known Read)
-    (cond (eqb number 0x03) (Known Copy)
-    (cond (eqb number 0x04) (Known Erase)
-    (cond (eqb number 0x05) (Known Run)
-    (cond (eqb number 0x08) (Known ReadQspi)
-    (cond (eqb number 0x0B) (Known Version)
-    (cond (eqb number 0x0C) (Known ChipErase)
-    (cond (eqb number 0x12) (Known DirectWrite)
-    Unknown))))))))
+opcodeOf number = amongThese opcodes number
 
--- the payload lengths that an opcode has: that of its numbers, and for Write and Direct write data of 1 byte or more after them
+-- the payload lengths that an opcode has
 abbrev pub hasLength : Opcode → (size : ℕ) → Bool
-hasLength Write size = leb 5 size
-hasLength Read size = eqb size 6
-hasLength Copy size = eqb size 10
-hasLength Erase size = eqb size 8
-hasLength Run size = eqb size 4
-hasLength ReadQspi size = eqb size 6
-hasLength Version size = eqb size 0
-hasLength ChipErase size = eqb size 0
-hasLength DirectWrite size = leb 6 size
+hasLength opcode size = let s = shapeOf opcode in cond (s .2) (ltb (s .1) size) (eqb size (s .1))
 
 abbrev pub hasAnswer : Opcode → Bool
-hasAnswer Write = false
-hasAnswer Read = true
-hasAnswer Copy = false
-hasAnswer Erase = false
-hasAnswer Run = false
-hasAnswer ReadQspi = true
-hasAnswer Version = true
-hasAnswer ChipErase = false
-hasAnswer DirectWrite = false
+hasAnswer opcode = shapeOf opcode .3
+
+-- where an opcode's data begin
+abbrev pub dataPlace : Opcode → ℕ
+dataPlace opcode = shapeOf opcode .1
 
 abbrev pub isRun : Opcode → Bool
-isRun Write = false
-isRun Read = false
-isRun Copy = false
-isRun Erase = false
-isRun Run = true
-isRun ReadQspi = false
-isRun Version = false
-isRun ChipErase = false
-isRun DirectWrite = false
+isRun opcode = eqb (opcodeNumber opcode) (opcodeNumber Run)

@@ -2,6 +2,7 @@
 ghost use mathlib.Core.Path.{_≡_};
 ghost use Rattle.command.specs.Check.{checks, checksOf, judged};
 use crate::payload::Command;
+use crate::version::VERSION;
 use wire::range::Place;
 use wire::unit::FlashOffset;
 use wire::unit::RAM_BASE;
@@ -65,7 +66,7 @@ fn checks_of(command: Command) -> Checks
         Command::Erase(offset, n) => tested(0, n, first, 0, offset, n, 0),
         Command::Run(address) => tested(0, 1, address, 1, start, 0, 0),
         Command::ReadQspi(offset, n) => tested(0, n, first, 0, offset, n, n),
-        Command::Version => tested(0, 1, first, 0, start, 0, 7),
+        Command::Version => tested(0, 1, first, 0, start, 0, VERSION.len() as u32),
         Command::ChipErase => tested(0, 1, first, 0, start, 0, 0),
         Command::DirectWrite(verify, offset, n) => tested(verify, n, first, 0, offset, n, 0),
     }

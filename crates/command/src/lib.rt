@@ -2,3 +2,4 @@
 pub mod check;
 pub mod opcode;
 pub mod payload;
+pub mod version;

@@ -1,6 +1,6 @@
-// The nine opcodes, the payload lengths that each has, and which of them have an answer.
+// The nine opcodes: a row for each, and what follows from it.
 ghost use mathlib.Core.Path.{_≡_};
-ghost use Rattle.command.specs.Opcode.{opcodeNumber, opcodeOf, hasLength, hasAnswer};
+ghost use Rattle.command.specs.Opcode.{shapeOf, SameShape, opcodeNumber, opcodeOf, hasLength, hasAnswer, dataPlace};
 
 // The reason where the opcode is unknown.
 pub const UNKNOWN_OPCODE: u32 = 11;
@@ -20,27 +20,42 @@ pub enum Opcode {
     DirectWrite,
 }
 
+const OPCODES: [Opcode; 9] = [
+    Opcode::Write,
+    Opcode::Read,
+    Opcode::Copy,
+    Opcode::Erase,
+    Opcode::Run,
+    Opcode::ReadQspi,
+    Opcode::Version,
+    Opcode::ChipErase,
+    Opcode::DirectWrite,
+];
+
+// An opcode's number, how many bytes its payload's numbers take, whether data, of 1 byte or more, follow them, and whether it has an
+// answer.
+pub struct Shape(pub u32, pub u32, pub bool, pub bool);
+
 // What a number says: an opcode, or none.
 pub enum Lookup {
     Known(Opcode),
     Unknown,
 }
 
-// The opcode that a number stands for.
-pub fn opcode_of(number: u32) -> Lookup
-    ensures { λ r. ⌜ r ≡ opcodeOf number ⌝ }
+// An opcode's row.
+pub fn shape_of(opcode: Opcode) -> Shape
+    ensures { λ r. ⌜ SameShape r (shapeOf opcode) ⌝ }
 {
-    match number {
-        0x01 => Lookup::Known(Opcode::Write),
-        0x02 => Lookup::Known(Opcode::Read),
-        0x03 => Lookup::Known(Opcode::Copy),
-        0x04 => Lookup::Known(Opcode::Erase),
-        0x05 => Lookup::Known(Opcode::Run),
-        0x08 => Lookup::Known(Opcode::ReadQspi),
-        0x0B => Lookup::Known(Opcode::Version),
-        0x0C => Lookup::Known(Opcode::ChipErase),
-        0x12 => Lookup::Known(Opcode::DirectWrite),
-        _ => Lookup::Unknown,
+    match opcode {
+        Opcode::Write => Shape(0x01, 4, true, false),
+        Opcode::Read => Shape(0x02, 6, false, true),
+        Opcode::Copy => Shape(0x03, 10, false, false),
+        Opcode::Erase => Shape(0x04, 8, false, false),
+        Opcode::Run => Shape(0x05, 4, false, false),
+        Opcode::ReadQspi => Shape(0x08, 6, false, true),
+        Opcode::Version => Shape(0x0B, 0, false, true),
+        Opcode::ChipErase => Shape(0x0C, 0, false, false),
+        Opcode::DirectWrite => Shape(0x12, 5, true, false),
     }
 }
 
@@ -48,49 +63,44 @@ pub fn opcode_of(number: u32) -> Lookup
 pub fn number_of(opcode: Opcode) -> u32
     ensures { λ r. ⌜ r ≡ opcodeNumber opcode ⌝ }
 {
-    match opcode {
-        Opcode::Write => 0x01,
-        Opcode::Read => 0x02,
-        Opcode::Copy => 0x03,
-        Opcode::Erase => 0x04,
-        Opcode::Run => 0x05,
-        Opcode::ReadQspi => 0x08,
-        Opcode::Version => 0x0B,
-        Opcode::ChipErase => 0x0C,
-        Opcode::DirectWrite => 0x12,
+    shape_of(opcode).0
+}
+
+// The opcode that a number stands for.
+pub fn opcode_of(number: u32) -> Lookup
+    ensures { λ r. ⌜ r ≡ opcodeOf number ⌝ }
+{
+    let all = OPCODES;
+    let mut i: usize = 0;
+    while i < all.len() {
+        let opcode = all[i];
+        if number_of(opcode) == number {
+            return Lookup::Known(opcode);
+        }
+        i += 1;
     }
+    Lookup::Unknown
 }
 
 // Whether an opcode has payloads of this length.
 pub fn has_length(opcode: Opcode, size: usize) -> bool
     ensures { λ r. ⌜ r ≡ hasLength opcode size ⌝ }
 {
-    match opcode {
-        Opcode::Write => 5 <= size,
-        Opcode::Read => size == 6,
-        Opcode::Copy => size == 10,
-        Opcode::Erase => size == 8,
-        Opcode::Run => size == 4,
-        Opcode::ReadQspi => size == 6,
-        Opcode::Version => size == 0,
-        Opcode::ChipErase => size == 0,
-        Opcode::DirectWrite => 6 <= size,
-    }
+    let shape = shape_of(opcode);
+    let fixed = shape.1 as usize;
+    if shape.2 { fixed < size } else { size == fixed }
 }
 
 // Whether an opcode has an answer.
 pub fn has_answer(opcode: Opcode) -> bool
     ensures { λ r. ⌜ r ≡ hasAnswer opcode ⌝ }
 {
-    match opcode {
-        Opcode::Write => false,
-        Opcode::Read => true,
-        Opcode::Copy => false,
-        Opcode::Erase => false,
-        Opcode::Run => false,
-        Opcode::ReadQspi => true,
-        Opcode::Version => true,
-        Opcode::ChipErase => false,
-        Opcode::DirectWrite => false,
-    }
+    shape_of(opcode).3
+}
+
+// Where an opcode's data begin.
+pub fn data_place(opcode: Opcode) -> u32
+    ensures { λ r. ⌜ r ≡ dataPlace opcode ⌝ }
+{
+    shape_of(opcode).1
 }

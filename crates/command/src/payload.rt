@@ -5,13 +5,14 @@ ghost use lib.ListN.{length};
 ghost use Rattle.wire.specs.Number.{numberAt};
 ghost use Rattle.command.specs.Payload.{addressAt, offsetAt, commandOf, Carried};
 use crate::opcode::Opcode;
+use crate::opcode::data_place;
 use wire::number::number16_at;
 use wire::number::number32_at;
 use wire::unit::FlashOffset;
 use wire::unit::RamAddress;
 
-// A command with its numbers. The data of Write and of Direct write, so many bytes, stand in the work buffer: a Write's from byte 4
-// on, a Direct write's from byte 5 on.
+// A command with its numbers. The data of Write and of Direct write, so many bytes, stand in the work buffer behind the payload's
+// numbers.
 pub enum Command {
     Write(RamAddress, u32),
     Read(RamAddress, u32),
@@ -24,11 +25,6 @@ pub enum Command {
     // Its first number is the verify byte.
     DirectWrite(u8, FlashOffset, u32),
 }
-
-// Where the data of Write and of Direct write begin.
-pub const WRITE_DATA: u32 = 4;
-
-pub const DIRECT_WRITE_DATA: u32 = 5;
 
 fn address_at(work: &[u8], place: usize) -> RamAddress
     requires { ⌜ place + 4 ≤ length (now work) ⌝ }
@@ -57,7 +53,7 @@ pub fn command_of(opcode: Opcode, count: u32, work: &[u8]) -> Command
     ensures { λ r. ⌜ r ≡ commandOf opcode count (now (work .entry)) ⌝ }
 {
     match opcode {
-        Opcode::Write => Command::Write(address_at(work, 0), count - WRITE_DATA),
+        Opcode::Write => Command::Write(address_at(work, 0), count - data_place(opcode)),
         Opcode::Read => Command::Read(address_at(work, 0), count_at(work, 4)),
         Opcode::Copy => Command::Copy(address_at(work, 0), count_at(work, 4), offset_at(work, 6)),
         Opcode::Erase => Command::Erase(offset_at(work, 0), number32_at(work, 4)),
@@ -66,7 +62,7 @@ pub fn command_of(opcode: Opcode, count: u32, work: &[u8]) -> Command
         Opcode::Version => Command::Version,
         Opcode::ChipErase => Command::ChipErase,
         Opcode::DirectWrite => {
-            Command::DirectWrite(work[0], offset_at(work, 1), count - DIRECT_WRITE_DATA)
+            Command::DirectWrite(work[0], offset_at(work, 1), count - data_place(opcode))
         }
     }
 }

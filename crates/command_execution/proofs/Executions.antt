@@ -20,14 +20,15 @@ use Rattle.command.specs.declared.opcode.Opcode.{Opcode}
 use Rattle.command.specs.declared.opcode.Opcode.the-variants.{Write, Read, Copy, Erase, Run, ReadQspi, Version, ChipErase, DirectWrite}
 use Rattle.command.specs.declared.payload.Command.{Command}
 use Rattle.command.specs.declared.payload.Command.the-variants as command
-use Rattle.command.specs.Opcode.{hasAnswer, isRun}
-use Rattle.command.specs.Payload.{addressAt, offsetAt, writeData, directWriteData, commandOf}
+use Rattle.command.specs.Opcode.{hasAnswer, dataPlace, isRun}
+use Rattle.command.specs.Payload.{addressAt, offsetAt, commandOf}
+use Rattle.command.specs.Version.{version}
 use Rattle.command.specs.Check.{checksOf}
 use Rattle.command_execution.specs.declared.Ending.{Ending}
 use Rattle.command_execution.specs.declared.Ending.the-variants.{Silent, Answers, Runs, Failed}
 use Rattle.command_execution.specs.Memories.{Memories, Fitting, SameLengths}
 use Rattle.command_execution.specs.Execution.{Executed, ended, isRunning, isAnswering, checked, executed, performed, Answering}
-use Rattle.command_execution.specs.Execution.{placeOf, version, answered, directWritten, verifyDiffers}
+use Rattle.command_execution.specs.Execution.{placeOf, answered, directWritten, verifyDiffers}
 use Rattle.command_execution.proofs.Checks.{Passed, allowed}
 
 -- the command that a payload says, and the reason against it
@@ -84,7 +85,7 @@ performed-ends Version count m = (refl, refl)
 performed-ends ChipErase count m = (refl, refl)
 performed-ends DirectWrite count m =
     in-written (λ (x : Ending). (isRunning x ≡ false) × (isAnswering x ≡ false)) (getD (m .work) 0 0) (offsetAt 1 (m .work) .0)
-    (partOf directWriteData (count - directWriteData) (m .work)) m (refl, refl) (refl, refl)
+    (partOf (dataPlace DirectWrite) (count - dataPlace DirectWrite) (m .work)) m (refl, refl) (refl, refl)
 
 pub others-never-run : (opcode : Opcode) (count : ℕ) (m : Memories) → isRun opcode ≡ false → isRunning (executed opcode count m .ending) ≡ false
 others-never-run opcode count m other =
@@ -120,7 +121,7 @@ module _ (opcode : Opcode) (m : Memories) where
       → isAnswering (performed command m .ending) ≡ hasAnswer opcode → Kept opcode m (performed command m)
   performed-keeps (command.Write address n) fit p has =
       let place = placeOf address in
-      let bytes = partOf writeData n (m .work) in
+      let bytes = partOf (dataPlace Write) n (m .work) in
       let fits : length bytes ≤ length (drop place (m .ram)) = simp (length-take, length-drop) (omega arith) in
       record {
         lengths = record { same-ram = changed-length (m .ram) place (laid bytes) (laid-length bytes (drop place (m .ram)) fits); same-flash = refl; same-work = refl };
@@ -141,11 +142,11 @@ module _ (opcode : Opcode) (m : Memories) where
       }
   performed-keeps (command.ReadQspi offset n) fit p has =
       answered-keeps (partOf (offset .0) n (m .flash)) n (part-length (offset .0) n (m .flash) (p .in-flash)) has (p .some) (p .answer-fits)
-  performed-keeps command.Version fit p has = answered-keeps version 7 refl has (omega arith) (p .answer-fits)
+  performed-keeps command.Version fit p has = answered-keeps version (length version) refl has (omega arith) (p .answer-fits)
   performed-keeps command.ChipErase fit p has =
       record { lengths = record { same-ram = refl; same-flash = length-replicate (length (m .flash)) 0xFF; same-work = refl }; fine = tt }
   performed-keeps (command.DirectWrite verify offset n) fit p has =
-      let bytes = partOf directWriteData n (m .work) in
+      let bytes = partOf (dataPlace DirectWrite) n (m .work) in
       record {
         lengths = record { same-ram = refl; same-flash = burnt-keeps (offset .0) bytes; same-work = refl };
         fine = in-written (Fine opcode (length (m .ram)) (length (m .work))) verify (offset .0) bytes m tt tt;

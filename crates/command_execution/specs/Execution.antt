@@ -3,7 +3,7 @@
 use Prim.Native.Nat.{ℕ, _+_, _-_, _≤_, _<_}
 use mathlib.Core.Path.{_≡_}
 use mathlib.Core.Bool.{Bool, true, false, cond, _||_, not}
-use mathlib.Core.List.{List, [], _∷_}
+use mathlib.Core.List.{List}
 use lib.Dec.{eqb}
 use lib.ListN.{length, drop}
 use Rattle.wire.specs.Unit.{ramBase}
@@ -12,10 +12,12 @@ use Rattle.memory.specs.Store.{laid, changedFrom, partOf}
 use Rattle.memory.specs.Flash.{burnt, blank, erased}
 use Rattle.memory.specs.Compare.{stands}
 use Rattle.command.specs.declared.opcode.Opcode.{Opcode}
+use Rattle.command.specs.declared.opcode.Opcode.the-variants as op
 use Rattle.command.specs.declared.payload.Command.{Command}
 use Rattle.command.specs.declared.payload.Command.the-variants.{Write, Read, Copy, Erase, Run, ReadQspi, Version, ChipErase, DirectWrite}
-use Rattle.command.specs.Opcode.{hasAnswer}
-use Rattle.command.specs.Payload.{writeData, directWriteData, commandOf}
+use Rattle.command.specs.Opcode.{hasAnswer, dataPlace}
+use Rattle.command.specs.Payload.{commandOf}
+use Rattle.command.specs.Version.{version}
 use Rattle.command.specs.Check.{checksOf, judged}
 use Rattle.command_execution.specs.declared.Ending.{Ending}
 use Rattle.command_execution.specs.declared.Ending.the-variants.{Silent, Answers, Runs, Failed}
@@ -50,10 +52,6 @@ ended ending after = record { ending = ending; after = after }
 abbrev pub placeOf : RamAddress → ℕ
 placeOf address = address .0 - ramBase
 
--- the 7 characters 0.0.0.3
-abbrev pub version : List ℕ
-version = 0x30 ∷ 0x2E ∷ 0x30 ∷ 0x2E ∷ 0x30 ∷ 0x2E ∷ 0x33 ∷ []
-
 -- a Direct write's end: where verify is 1, the bytes must stand in flash; the store stays either way
 abbrev pub verified : (verify offset : ℕ) (bytes flash : List ℕ) → Ending
 verified verify offset bytes flash = cond (not (eqb verify 1) || stands bytes (drop offset flash)) Silent (Failed verifyDiffers)
@@ -70,7 +68,7 @@ directWritten verify offset bytes m =
 -- what a command does, its checks passed
 abbrev pub performed : Command → Memories → Executed
 performed (Write address n) m =
-    ended Silent (memories (changedFrom (placeOf address) (laid (partOf writeData n (m .work))) (m .ram)) (m .flash) (m .work))
+    ended Silent (memories (changedFrom (placeOf address) (laid (partOf (dataPlace op.Write) n (m .work))) (m .ram)) (m .flash) (m .work))
 performed (Read address n) m = answered (partOf (placeOf address) n (m .ram)) m
 performed (Copy address n offset) m =
     ended Silent (memories (m .ram) (changedFrom (offset .0) (burnt (partOf (placeOf address) n (m .ram))) (m .flash)) (m .work))
@@ -79,7 +77,7 @@ performed (Run address) m = ended (Runs address) m
 performed (ReadQspi offset n) m = answered (partOf (offset .0) n (m .flash)) m
 performed Version m = answered version m
 performed ChipErase m = ended Silent (memories (m .ram) (blank (length (m .flash))) (m .work))
-performed (DirectWrite verify offset n) m = directWritten verify (offset .0) (partOf directWriteData n (m .work)) m
+performed (DirectWrite verify offset n) m = directWritten verify (offset .0) (partOf (dataPlace op.DirectWrite) n (m .work)) m
 
 -- the reason against a command in these memories
 abbrev pub checked : Command → Memories → ℕ
@@ -94,7 +92,7 @@ executed opcode count m = let command = commandOf opcode count (m .work) in perf
 
 -- the end of a command's data in the work buffer
 abbrev pub dataEnd : Command → ℕ
-dataEnd (Write address n) = writeData + n
+dataEnd (Write address n) = dataPlace op.Write + n
 dataEnd (Read address n) = 0
 dataEnd (Copy address n offset) = 0
 dataEnd (Erase offset n) = 0
@@ -102,7 +100,7 @@ dataEnd (Run address) = 0
 dataEnd (ReadQspi offset n) = 0
 dataEnd Version = 0
 dataEnd ChipErase = 0
-dataEnd (DirectWrite verify offset n) = directWriteData + n
+dataEnd (DirectWrite verify offset n) = dataPlace op.DirectWrite + n
 
 -- a command whose checks passed, in memories of these lengths
 pub record Allowed (command : Command) (ram flash work : ℕ) : Type 0 where

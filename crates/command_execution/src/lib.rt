@@ -11,10 +11,10 @@ ghost use Rattle.command_execution.specs.Memories.{memories, Fitting};
 ghost use Rattle.command_execution.specs.Execution.{ended, verified, performed, executed, Allowed};
 use command::check::check;
 use command::opcode::Opcode;
+use command::opcode::data_place;
 use command::payload::Command;
-use command::payload::DIRECT_WRITE_DATA;
-use command::payload::WRITE_DATA;
 use command::payload::command_of;
+use command::version::VERSION;
 use memory::compare::stands;
 use memory::flash::burn;
 use memory::flash::erase;
@@ -90,8 +90,9 @@ fn perform(command: Command, ram: &mut [u8], flash: &mut [u8], work: &mut [u8]) 
     match command {
         Command::Write(address, n) => {
             let start = index_of(address);
-            let end = (WRITE_DATA + n) as usize;
-            lay(&mut ram[start..], &work[WRITE_DATA as usize..end]);
+            let from = data_place(Opcode::Write) as usize;
+            let end = from + (n as usize);
+            lay(&mut ram[start..], &work[from..end]);
             Ending::Silent
         }
         Command::Read(address, n) => answer(ram, index_of(address), n, work),
@@ -105,19 +106,15 @@ fn perform(command: Command, ram: &mut [u8], flash: &mut [u8], work: &mut [u8]) 
         }
         Command::Run(address) => Ending::Runs(address),
         Command::ReadQspi(offset, n) => answer(flash, offset.0 as usize, n, work),
-        Command::Version => answer(b"0.0.0.3", 0, 7, work),
+        Command::Version => answer(&VERSION, 0, VERSION.len() as u32, work),
         Command::ChipErase => {
             wipe(flash);
             Ending::Silent
         }
         Command::DirectWrite(verify, offset, n) => {
-            let end = (DIRECT_WRITE_DATA + n) as usize;
-            direct_write(
-                verify,
-                offset.0 as usize,
-                &work[DIRECT_WRITE_DATA as usize..end],
-                flash,
-            )
+            let from = data_place(Opcode::DirectWrite) as usize;
+            let end = from + (n as usize);
+            direct_write(verify, offset.0 as usize, &work[from..end], flash)
         }
     }
 }

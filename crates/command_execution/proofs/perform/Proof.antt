@@ -8,7 +8,8 @@ use native.Mathlib.Omega.{arith}
 use borrow.Author.Needs.{needs}
 use Rattle.memory.specs.Store.{laid, partOf}
 use Rattle.memory.proofs.Stores.{changed-part, part-length}
-use Rattle.command.specs.Payload.{writeData}
+use Rattle.command.specs.declared.opcode.Opcode.the-variants.{Write}
+use Rattle.command.specs.Opcode.{dataPlace}
 use Rattle.command_execution.specs.declared.Ending.the-variants.{Silent}
 use Rattle.command_execution.specs.Memories.{memories}
 use Rattle.command_execution.specs.Execution.{ended, placeOf}
@@ -25,32 +26,35 @@ index-of-requires c κs =
     let h = ready (k .before .before .before .before .before .pre) (k .command .given .1) in
     search needs
 
-add-end : tie.Need-add-end
-add-end c =
-    let k = c .before .before in
-    let h = ready (k .before .before .before .before .before .pre) (k .command .given .1) in
-    search needs
+data-place-requires : tie.Need-data-place-requires
+data-place-requires c κs = search needs
+
+cast-from : tie.Need-cast-from
+cast-from c = search needs
 
 cast-end : tie.Need-cast-end
 cast-end c = search needs
 
+add-end : tie.Need-add-end
+add-end c =
+    let k = c .before .before .before in
+    let h = ready (k .before .before .before .before .before .pre) (k .command .given .1) in
+    search needs
+
 sub-lay : tie.Need-sub-lay
 sub-lay c =
-    let k = c .before .before in
+    let k = c .before .before .before in
     let h = ready (k .before .before .before .before .before .pre) (k .command .given .1) in
     search needs
 
 part-lay-start : tie.Need-part-lay-start
 part-lay-start c =
-    let k = c .before .before in
+    let k = c .before .before .before in
     let h = ready (k .before .before .before .before .before .pre) (k .command .given .1) in
     search needs
 
 part-lay-end : tie.Need-part-lay-end
 part-lay-end c = search needs
-
-cast-lay : tie.Need-cast-lay
-cast-lay c = search needs
 
 sub-lay-2 : tie.Need-sub-lay-2
 sub-lay-2 c = search needs
@@ -60,13 +64,13 @@ part-lay-start-2 c = search needs
 
 part-lay-end-2 : tie.Need-part-lay-end-2
 part-lay-end-2 c =
-    let k = c .before .before .before .before in
+    let k = c .before .before .before .before .before in
     let h = ready (k .before .before .before .before .before .pre) (k .command .given .1) in
     search needs
 
 lay-requires : tie.Need-lay-requires
 lay-requires c κs =
-    let k = c .before .before .before .before .before in
+    let k = c .before .before .before .before .before .before in
     let h = ready (k .before .before .before .before .before .pre) (k .command .given .1) in
     search needs
 
@@ -130,6 +134,9 @@ enum-told c = search needs
 slice-aggregate-answer : tie.Need-slice-aggregate-answer
 slice-aggregate-answer c = search needs
 
+cast-answer-2 : tie.Need-cast-answer-2
+cast-answer-2 c = search needs
+
 answer-requires-3 : tie.Need-answer-requires-3
 answer-requires-3 c κs =
     let k = c .before .before in
@@ -145,20 +152,23 @@ wipe-requires c κs = search needs
 enum-known-command-7 : tie.Need-enum-known-command-7
 enum-known-command-7 c = search needs
 
-add-end-2 : tie.Need-add-end-2
-add-end-2 c =
-    let k = c .before in
-    let h = ready (k .before .before .before .before .before .pre) (k .command7 .given .1) in
-    search needs
+data-place-requires-2 : tie.Need-data-place-requires-2
+data-place-requires-2 c κs = search needs
+
+cast-from-2 : tie.Need-cast-from-2
+cast-from-2 c = search needs
 
 cast-end-2 : tie.Need-cast-end-2
 cast-end-2 c = search needs
 
+add-end-2 : tie.Need-add-end-2
+add-end-2 c =
+    let k = c .before .before in
+    let h = ready (k .before .before .before .before .before .pre) (k .command7 .given .1) in
+    search needs
+
 cast-direct-write : tie.Need-cast-direct-write
 cast-direct-write c = search needs
-
-cast-direct-write-2 : tie.Need-cast-direct-write-2
-cast-direct-write-2 c = search needs
 
 sub-direct-write : tie.Need-sub-direct-write
 sub-direct-write c = search needs
@@ -168,13 +178,13 @@ part-direct-write-start c = search needs
 
 part-direct-write-end : tie.Need-part-direct-write-end
 part-direct-write-end c =
-    let k = c .before .before .before in
+    let k = c .before .before .before .before in
     let h = ready (k .before .before .before .before .before .pre) (k .command7 .given .1) in
     search needs
 
 direct-write-requires : tie.Need-direct-write-requires
 direct-write-requires c κs =
-    let k = c .before .before .before .before .before in
+    let k = c .before .before .before .before .before .before in
     let h = ready (k .before .before .before .before .before .pre) (k .command7 .given .1) in
     search needs
 
@@ -186,13 +196,14 @@ same-length-2 c = search needs
 
 returns : tie.Need-returns
 returns c =
-    let k = c .before .before .before .before .before .before .before .before in
+    let k = c .before .before .before .before .before .before .before .before .before in
     let h = ready (k .before .before .before .before .before .pre) (k .command .given .1) in
     let a = k .before .before .before .before .before .args in
     let e = k .command .given in
-    simp (c .before .before .lay .ensures, c .before .before .before .before .before .before .index-of .ensures, add-sub-cancel-left, e .1)
+    let placed = c .before .before .before .before .before .before in
+    simp (c .before .before .lay .ensures, placed .data-place .ensures, placed .before .index-of .ensures, add-sub-cancel-left, e .1)
     (ap (λ (l : List ℕ). ended Silent (memories l (a .flash .now) (a .work .now)))
-    (changed-part (a .ram .now) (placeOf (e .0 .0)) (laid (partOf writeData (e .0 .1 .0) (a .work .now))) (omega arith)))
+    (changed-part (a .ram .now) (placeOf (e .0 .0)) (laid (partOf (dataPlace Write) (e .0 .1 .0) (a .work .now))) (omega arith)))
 
 same-length-3 : tie.Need-same-length-3
 same-length-3 c = search needs
@@ -265,9 +276,9 @@ same-length-13 c = search needs
 
 returns-9 : tie.Need-returns-9
 returns-9 c =
-    let k = c .before .before .before .before .before .before .before .before in
+    let k = c .before .before .before .before .before .before .before .before .before in
     let r = c .before .before .direct-write .ensures in
-    simp (r .0, r .1, k .command7 .given .1, add-sub-cancel-left)
+    simp (r .0, r .1, k .command7 .given .1, c .before .before .before .before .before .before .before .data-place2 .ensures, add-sub-cancel-left)
 
 pub perform-spec : {M : Type 1} → statement M
 perform-spec =
@@ -275,12 +286,13 @@ perform-spec =
     (tie.spec
     enum-known-command
     index-of-requires
-    add-end
+    data-place-requires
+    cast-from
     cast-end
+    add-end
     sub-lay
     part-lay-start
     part-lay-end
-    cast-lay
     sub-lay-2
     part-lay-start-2
     part-lay-end-2
@@ -300,14 +312,16 @@ perform-spec =
     answer-requires-2
     enum-told
     slice-aggregate-answer
+    cast-answer-2
     answer-requires-3
     enum-told-2
     wipe-requires
     enum-known-command-7
-    add-end-2
+    data-place-requires-2
+    cast-from-2
     cast-end-2
+    add-end-2
     cast-direct-write
-    cast-direct-write-2
     sub-direct-write
     part-direct-write-start
     part-direct-write-end

@@ -43,6 +43,9 @@ tested-requires-6 c κs = search needs
 enum-told : tie.Need-enum-told
 enum-told c = search needs
 
+cast-tested : tie.Need-cast-tested
+cast-tested c = search needs
+
 tested-requires-7 : tie.Need-tested-requires-7
 tested-requires-7 c κs = search needs
 
@@ -102,6 +105,7 @@ checks-of-spec =
     enum-known-command-6
     tested-requires-6
     enum-told
+    cast-tested
     tested-requires-7
     enum-told-2
     tested-requires-8

@@ -1,73 +1,70 @@
--- `command::opcode::opcode_of`: the number is known in every arm but the last, where it is none of the nine.
+-- `command::opcode::opcode_of`: the opcodes that were passed have other numbers.
 -- Assumes nothing.
-use borrow.Author.Tests.{ne-eqb}
-use Rattle.command.specs.Opcode.{opcodeOf}
+use Prim.Native.Nat.{_≤_, _-_}
+use mathlib.Core.Path.{_≡_, refl, sym, _∙_}
+use native.Mathlib.Numerals.{add-one}
+use native.Mathlib.Omega.{arith}
+use lib.ListN.{length, drop}
+use Rattle.command.specs.Opcode.{opcodes, amongThese, opcodeOf}
+use Rattle.command.proofs.Opcodes.{found-here, found-behind}
 use Rattle.command.proofs.opcode.opcode_of.Statement.{statement}
 use Rattle.command.proofs.opcode.opcode_of.Tie as tie
 
-returns : tie.Need-returns
-unfolding opcodeOf
-returns c = simp (c .match .keys1)
+abbrev Inv-loop : tie.InvT-loop
+Inv-loop number all i₀ i = (i ≤ length opcodes) × (amongThese (drop i opcodes) number ≡ opcodeOf number)
 
-returns-2 : tie.Need-returns-2
-unfolding opcodeOf
-returns-2 c = simp (c .match .keys2)
+abbrev μ-loop : tie.MeasureT-loop
+μ-loop number all i₀ i = length opcodes - i
 
-returns-3 : tie.Need-returns-3
+loop-holds : tie.Need-loop-holds Inv-loop μ-loop
 unfolding opcodeOf
-returns-3 c = simp (c .match .keys3)
+loop-holds c = (omega arith, refl)
 
-returns-4 : tie.Need-returns-4
-unfolding opcodeOf
-returns-4 c = simp (c .match .keys4)
+array-copy-out-opcode : tie.Need-array-copy-out-opcode Inv-loop μ-loop
+array-copy-out-opcode c = omega arith
 
-returns-5 : tie.Need-returns-5
-unfolding opcodeOf
-returns-5 c = simp (c .match .keys5)
+number-of-requires : tie.Need-number-of-requires Inv-loop μ-loop
+number-of-requires c κs = tt
 
-returns-6 : tie.Need-returns-6
-unfolding opcodeOf
-returns-6 c = simp (c .match .keys6)
+returns : tie.Need-returns Inv-loop μ-loop
+returns c =
+    let here = c .before .before .before in
+    let at = here .before in
+    let same = sym (c .before .number-of .ensures) ∙ c .if1 .taken in
+    sym (found-here opcodes (at .loop .i) (at .before .args .number) (here .loop-test .taken) same) ∙ at .loop .inv .1
 
-returns-7 : tie.Need-returns-7
-unfolding opcodeOf
-returns-7 c = simp (c .match .keys7)
+add-i : tie.Need-add-i Inv-loop μ-loop
+add-i c = omega arith
 
-returns-8 : tie.Need-returns-8
-unfolding opcodeOf
-returns-8 c = simp (c .match .keys8)
+loop-less : tie.Need-loop-less Inv-loop μ-loop
+loop-less c = omega arith
 
-returns-9 : tie.Need-returns-9
-unfolding opcodeOf
-returns-9 c = simp (c .match .keys9)
+loop-again : tie.Need-loop-again Inv-loop μ-loop
+loop-again c =
+    let here = c .before .before .before in
+    let at = here .before in
+    let behind =
+    found-behind opcodes (at .loop .i) (at .before .args .number) (here .loop-test .taken)
+    (λ e. c .if1 .left (c .before .number-of .ensures ∙ e)) in
+    (omega arith, rw add-one (sym behind ∙ at .loop .inv .1))
 
-returns-10 : tie.Need-returns-10
-unfolding opcodeOf
-returns-10 c =
-    let rest = c .match .rest in
-    simp (
-      ne-eqb _ _ (rest .1),
-      ne-eqb _ _ (rest .0 .1),
-      ne-eqb _ _ (rest .0 .0 .1),
-      ne-eqb _ _ (rest .0 .0 .0 .1),
-      ne-eqb _ _ (rest .0 .0 .0 .0 .1),
-      ne-eqb _ _ (rest .0 .0 .0 .0 .0 .1),
-      ne-eqb _ _ (rest .0 .0 .0 .0 .0 .0 .1),
-      ne-eqb _ _ (rest .0 .0 .0 .0 .0 .0 .0 .1),
-      ne-eqb _ _ (rest .0 .0 .0 .0 .0 .0 .0 .0 .1),
-    )
+returns-2 : tie.Need-returns-2 Inv-loop μ-loop
+returns-2 c =
+    let at = c .before in
+    let end : at .loop .i ≡ length opcodes = omega arith in
+    rw end at (at .loop .inv .1)
 
 pub opcode-of-spec : {M : Type 1} → statement M
 opcode-of-spec =
     tie.close
     (tie.spec
+    Inv-loop
+    μ-loop
+    loop-holds
+    array-copy-out-opcode
+    number-of-requires
     returns
-    returns-2
-    returns-3
-    returns-4
-    returns-5
-    returns-6
-    returns-7
-    returns-8
-    returns-9
-    returns-10)
+    add-i
+    loop-less
+    loop-again
+    returns-2)

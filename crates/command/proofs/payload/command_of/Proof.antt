@@ -4,15 +4,16 @@ use Prim.Native.Nat.{ℕ, _≤_}
 use mathlib.Core.Path.{_≡_}
 use native.Mathlib.Omega.{arith}
 use Rattle.command.specs.declared.opcode.Opcode.{Opcode}
+use Rattle.command.specs.Opcode.{dataPlace}
 use Rattle.command.specs.Payload.{Carried}
-use Rattle.command.proofs.Opcodes.{shortest, never-shorter}
+use Rattle.command.proofs.Opcodes.{never-shorter}
 use borrow.Author.Needs.{needs}
 use Rattle.command.proofs.payload.command_of.Statement.{statement}
 use Rattle.command.proofs.payload.command_of.Tie as tie
 
 -- the bytes that a known opcode asks for are there
 long : {opcode known : Opcode} {count size : ℕ} → opcode ≡ known → Carried opcode count size
-    → (shortest known ≤ count) × (count ≤ size)
+    → (dataPlace known ≤ count) × (count ≤ size)
 long {opcode} {known} {count} e carried = (never-shorter known count (rw e at (carried .has-length)), carried .in-work)
 
 enum-told : tie.Need-enum-told
@@ -21,8 +22,13 @@ enum-told c = search needs
 address-at-requires : tie.Need-address-at-requires
 address-at-requires c κs = omega (arith, long (c .enum-told .given .1) (c .before .before .before .pre))
 
-sub-t6 : tie.Need-sub-t6
-sub-t6 c = omega (arith, long (c .before .enum-told .given .1) (c .before .before .before .before .pre))
+data-place-requires : tie.Need-data-place-requires
+data-place-requires c κs = search needs
+
+sub-t7 : tie.Need-sub-t7
+sub-t7 c =
+    let start = c .before .before .before .before .before in
+    rw (c .data-place .ensures) (never-shorter (start .args .opcode) (start .args .count) (start .pre .has-length))
 
 enum-told-2 : tie.Need-enum-told-2
 enum-told-2 c = search needs
@@ -80,19 +86,22 @@ enum-told-8 c = search needs
 enum-told-9 : tie.Need-enum-told-9
 enum-told-9 c = search needs
 
-shared-slice-read-t18 : tie.Need-shared-slice-read-t18
-shared-slice-read-t18 c = omega (arith, long (c .before .enum-told9 .given .1) (c .before .before .before .before .pre))
+shared-slice-read-t19 : tie.Need-shared-slice-read-t19
+shared-slice-read-t19 c = omega (arith, long (c .before .enum-told9 .given .1) (c .before .before .before .before .pre))
 
 offset-at-requires-4 : tie.Need-offset-at-requires-4
 offset-at-requires-4 c κs = omega (arith, long (c .before .enum-told9 .given .1) (c .before .before .before .before .pre))
 
-sub-t20 : tie.Need-sub-t20
-sub-t20 c =
-    let told = c .before .before in
-    omega (arith, long (told .enum-told9 .given .1) (told .before .before .before .pre))
+data-place-requires-2 : tie.Need-data-place-requires-2
+data-place-requires-2 c κs = search needs
+
+sub-t22 : tie.Need-sub-t22
+sub-t22 c =
+    let start = c .before .before .before .before .before .before in
+    rw (c .data-place2 .ensures) (never-shorter (start .args .opcode) (start .args .count) (start .pre .has-length))
 
 returns : tie.Need-returns
-returns c = simp (c .address-at .ensures, c .before .enum-told .given .1)
+returns c = simp (c .data-place .ensures, c .before .address-at .ensures, c .before .before .enum-told .given .1)
 
 returns-2 : tie.Need-returns-2
 returns-2 c = simp (c .count-at .ensures, c .before .address-at2 .ensures, c .before .before .enum-told2 .given .1)
@@ -118,7 +127,7 @@ returns-8 : tie.Need-returns-8
 returns-8 c = search needs
 
 returns-9 : tie.Need-returns-9
-returns-9 c = simp (c .offset-at4 .ensures, c .before .before .enum-told9 .given .1)
+returns-9 c = simp (c .data-place2 .ensures, c .before .offset-at4 .ensures, c .before .before .before .enum-told9 .given .1)
 
 pub command-of-spec : {M : Type 1} → statement M
 command-of-spec =
@@ -126,7 +135,8 @@ command-of-spec =
     (tie.spec
     enum-told
     address-at-requires
-    sub-t6
+    data-place-requires
+    sub-t7
     enum-told-2
     address-at-requires-2
     count-at-requires
@@ -145,9 +155,10 @@ command-of-spec =
     enum-told-7
     enum-told-8
     enum-told-9
-    shared-slice-read-t18
+    shared-slice-read-t19
     offset-at-requires-4
-    sub-t20
+    data-place-requires-2
+    sub-t22
     returns
     returns-2
     returns-3
