@@ -9,12 +9,13 @@ use lib.ListN.{length, drop, getD}
 use lib.Seq.{drop-cons}
 use native.Mathlib.Omega.{arith}
 use borrow.Author.Tests.{eqb-true, ltb-true, eq-eqb, ne-eqb}
+use borrow.Table.Steps.{cases}
 use Rattle.wire.proofs.Tests.{in-cond}
 use Rattle.command.specs.declared.opcode.Opcode.{Opcode}
 use Rattle.command.specs.declared.opcode.Opcode.the-variants.{Write, Read, Copy, Erase, Run, ReadQspi, Version, ChipErase, DirectWrite}
 use Rattle.command.specs.declared.opcode.Lookup.{Lookup}
 use Rattle.command.specs.declared.opcode.Lookup.the-variants.{Known}
-use Rattle.command.specs.Opcode.{shapeOf, opcodes, opcodeNumber, amongThese, opcodeOf, hasLength, dataPlace}
+use Rattle.command.specs.Opcode.{shapeOf, opcodes, opcodeNumber, amongThese, opcodeOf, hasLength, dataPlace, isRun}
 
 -- an opcode's number stands for it, and no other number does
 pub opcode-back : (opcode : Opcode) → opcodeOf (opcodeNumber opcode) ≡ Known opcode
@@ -55,3 +56,18 @@ long-enough false fixed n e = omega (arith, eqb-true n fixed e)
 -- a payload holds its numbers
 pub never-shorter : (opcode : Opcode) (n : ℕ) → hasLength opcode n ≡ true → dataPlace opcode ≤ n
 never-shorter opcode n e = long-enough (shapeOf opcode .2) (dataPlace opcode) n e
+
+-- only Run has its number
+run-alone : (opcode : Opcode) → isRun opcode ≡ true → opcode ≡ Run
+run-alone opcode e =
+    let same : opcodeNumber opcode ≡ opcodeNumber Run = eqb-true _ _ e in
+    let back : opcodeOf (opcodeNumber opcode) ≡ Known opcode = opcode-back opcode in
+    let run : opcodeOf (opcodeNumber Run) ≡ Known Run = opcode-back Run in
+    cc
+
+-- Run has a payload
+pub bare-never-run : (opcode : Opcode) (n : ℕ) → hasLength opcode n ≡ true → n ≡ 0 → isRun opcode ≡ false
+bare-never-run opcode n h e =
+    cases (isRun opcode)
+    (λ r. let long : dataPlace Run ≤ n = never-shorter Run n (rw (run-alone opcode r) at h) in absurd (omega arith))
+    (λ r. r)

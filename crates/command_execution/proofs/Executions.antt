@@ -1,7 +1,7 @@
 -- Laws of execution: what is done where the checks pass and where one fails, what stays, and which opcodes make code run.
 -- Assumes nothing.
 use Prim.Native.Nat.{ℕ, suc, _-_, _<_, _≤_}
-use mathlib.Core.Path.{_≡_, refl, sym, _∙_}
+use mathlib.Core.Path.{_≡_, refl, sym, ap, _∙_}
 use mathlib.Core.List.{List}
 use mathlib.Core.Bool.{true, false, _||_, not}
 use native.Mathlib.Omega.{arith}
@@ -21,7 +21,7 @@ use Rattle.command.specs.declared.opcode.Opcode.the-variants.{Write, Read, Copy
 use Rattle.command.specs.declared.payload.Command.{Command}
 use Rattle.command.specs.declared.payload.Command.the-variants as command
 use Rattle.command.specs.Opcode.{hasAnswer, dataPlace, isRun}
-use Rattle.command.specs.Payload.{addressAt, offsetAt, commandOf}
+use Rattle.command.specs.Payload.{offsetAt, commandOf}
 use Rattle.command.specs.Version.{version}
 use Rattle.command.specs.Check.{checksOf}
 use Rattle.command_execution.specs.declared.Ending.{Ending}
@@ -47,10 +47,6 @@ module _ (opcode : Opcode) (count : ℕ) (m : Memories) (said : Command) (is-sai
 pub failed-changes-nothing : (opcode : Opcode) (count : ℕ) (m : Memories) (k : ℕ) → checked (commandOf opcode count (m .work)) m ≡ suc k
     → executed opcode count m ≡ ended (Failed (suc k)) m
 failed-changes-nothing opcode count m k e = sym (refuses opcode count m _ refl (suc k) (sym e) (λ z. omega arith))
-
-pub run-executes : (count : ℕ) (m : Memories) → checked (commandOf Run count (m .work)) m ≡ 0
-    → executed Run count m ≡ ended (Runs (addressAt 0 (m .work))) m
-run-executes count m e = sym (performs Run count m _ refl 0 (sym e) refl)
 
 -- what holds of a command that is done, and of one that fails, holds of its execution
 pub in-executed : (Q : Executed → Type 0) (opcode : Opcode) (count : ℕ) (m : Memories)
@@ -86,6 +82,12 @@ performed-ends ChipErase count m = (refl, refl)
 performed-ends DirectWrite count m =
     in-written (λ (x : Ending). (isRunning x ≡ false) × (isAnswering x ≡ false)) (getD (m .work) 0 0) (offsetAt 1 (m .work) .0)
     (partOf (dataPlace DirectWrite) (count - dataPlace DirectWrite) (m .work)) m (refl, refl) (refl, refl)
+
+-- a command that passes its checks makes code run exactly if it is Run
+pub run-starts : (opcode : Opcode) (count : ℕ) (m : Memories) → checked (commandOf opcode count (m .work)) m ≡ 0
+    → isRunning (executed opcode count m .ending) ≡ isRun opcode
+run-starts opcode count m e =
+    ap (λ (x : Executed). isRunning (x .ending)) (sym (performs opcode count m _ refl 0 (sym e) refl)) ∙ performed-ends opcode count m .0
 
 pub others-never-run : (opcode : Opcode) (count : ℕ) (m : Memories) → isRun opcode ≡ false → isRunning (executed opcode count m .ending) ≡ false
 others-never-run opcode count m other =

@@ -2,8 +2,7 @@
 -- passes its checks.
 -- Assumes nothing.
 use Prim.Native.Nat.{ℕ, _+_, _*_}
-use native.Mathlib.Omega.{arith}
-use mathlib.Core.Path.{_≡_, refl, sym, ap, _∙_}
+use mathlib.Core.Path.{_≡_, refl, sym, _∙_}
 use mathlib.Core.Bool.{Bool, true, false, cond, not, _&&_, and-true, and-false}
 use mathlib.Core.List.{List, [], _∷_}
 use lib.Dec.{eqb, ltb}
@@ -14,17 +13,17 @@ use Rattle.machine.specs.Machine.{isRunning}
 use Rattle.machine.specs.Does.{Does, takes, sends, runs, needOf}
 use Rattle.machine.specs.Acknowledged.{tookByte}
 use Rattle.command.specs.declared.opcode.Opcode.{Opcode}
-use Rattle.command.specs.declared.opcode.Opcode.the-variants as op
 use Rattle.command.specs.declared.opcode.Lookup.{Lookup}
 use Rattle.command.specs.declared.opcode.Lookup.the-variants.{Known, Unknown}
 use Rattle.command.specs.Opcode.{opcodeOf, hasLength, isRun}
 use Rattle.command.specs.Payload.{commandOf}
+use Rattle.command.proofs.Opcodes.{bare-never-run}
 use Rattle.command_execution.specs.declared.Ending.{Ending}
 use Rattle.command_execution.specs.declared.Ending.the-variants.{Silent, Answers, Runs, Failed}
 use Rattle.command_execution.specs.Memories.{Memories}
 use Rattle.command_execution.specs.Execution.{checked, executed}
 use Rattle.command_execution.specs.Execution as execution
-use Rattle.command_execution.proofs.Executions.{run-executes, others-never-run}
+use Rattle.command_execution.proofs.Executions.{run-starts, others-never-run}
 use Rattle.uartboot_flow.specs.declared.step.Step.{Step}
 use Rattle.uartboot_flow.specs.declared.step.Step.the-variants.{Greeting, Header, Command, Answer, Refusal, Running}
 use Rattle.uartboot_flow.specs.declared.step.HeaderStep.{HeaderStep}
@@ -112,30 +111,6 @@ ends-checks reason opcode (Answers count) m = tt
 ends-checks reason opcode (Runs address) m = tt
 ends-checks reason opcode (Failed why) m = tt
 
--- a Run whose payload passes its checks starts code, and nothing else does
-executes-starts : (opcode : Opcode) (n : ℕ) (m : Memories) → checked (commandOf opcode n (m .work)) m ≡ 0 → execution.isRunning (executed opcode n m .ending) ≡ isRun opcode
-executes-starts op.Run n m h = ap (λ e. execution.isRunning (e .ending)) (run-executes n m h)
-executes-starts op.Write n m h = others-never-run op.Write n m refl
-executes-starts op.Read n m h = others-never-run op.Read n m refl
-executes-starts op.Copy n m h = others-never-run op.Copy n m refl
-executes-starts op.Erase n m h = others-never-run op.Erase n m refl
-executes-starts op.ReadQspi n m h = others-never-run op.ReadQspi n m refl
-executes-starts op.Version n m h = others-never-run op.Version n m refl
-executes-starts op.ChipErase n m h = others-never-run op.ChipErase n m refl
-executes-starts op.DirectWrite n m h = others-never-run op.DirectWrite n m refl
-
--- Run has a payload
-bare-never-run : (opcode : Opcode) (n : ℕ) → hasLength opcode n ≡ true → eqb n 0 ≡ true → isRun opcode ≡ false
-bare-never-run op.Run n h e = absurd (let x : n ≡ 0 = eqb-true n 0 e in let y : n ≡ 4 = eqb-true n 4 h in let z : ⊥ = omega arith in z)
-bare-never-run op.Write n h e = refl
-bare-never-run op.Read n h e = refl
-bare-never-run op.Copy n h e = refl
-bare-never-run op.Erase n h e = refl
-bare-never-run op.ReadQspi n h e = refl
-bare-never-run op.Version n h e = refl
-bare-never-run op.ChipErase n h e = refl
-bare-never-run op.DirectWrite n h e = refl
-
 module _ (reason : ℕ) (m : Memories) where
   abbrev here : Step → State
   here step = state step reason m
@@ -174,7 +149,7 @@ module _ (reason : ℕ) (m : Memories) where
       Lefts (here (Command opcode n step)) (command reason m opcode n step)
   command-left opcode n SendAck h c =
       in-cond (Left (here (Command opcode n SendAck)) []) (eqb n 0) _ _
-      (λ e. executes-left opcode n SendAck [] refl (others-never-run opcode n m (bare-never-run opcode n (h .step-sound .0 .has-length) e)))
+      (λ e. executes-left opcode n SendAck [] refl (others-never-run opcode n m (bare-never-run opcode n (h .step-sound .0 .has-length) (eqb-true n 0 e))))
       (λ e. record { starts = refl; goes-on = quiet (refl, refl) (λ z. refl); checks = tt })
   command-left opcode n (TakePayload place) h c =
       λ b.
@@ -192,7 +167,7 @@ module _ (reason : ℕ) (m : Memories) where
   command-left opcode n TakeGo h c = λ b. go b (eqb b ack) refl
     where
       go : (b : ℕ) (t : Bool) → eqb b ack ≡ t → Left (here (Command opcode n TakeGo)) (b ∷ []) (cond t (executes reason m opcode n) (state first 20 m))
-      go b true e = executes-left opcode n TakeGo (b ∷ []) refl (executes-starts opcode n m c ∙ rw e (sym (and-true (isRun opcode))))
+      go b true e = executes-left opcode n TakeGo (b ∷ []) refl (run-starts opcode n m c ∙ rw e (sym (and-true (isRun opcode))))
       go b false e = record { starts = rw e (sym (and-false (isRun opcode))); goes-on = quiet (refl, refl) (λ z. refl); checks = tt }
 
   answer-left : (opcode : Opcode) (n : ℕ) (step : AnswerStep) → Lefts (here (Answer opcode n step)) (answer reason m opcode n step)
