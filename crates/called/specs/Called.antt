@@ -4,7 +4,7 @@ use Prim.Native.Nat.{ℕ}
 use mathlib.Core.Bool.{cond}
 use mathlib.Core.List.{List}
 use lib.Dec.{eqb}
-use Rattle.machine.specs.Session.{Answer}
+use Rattle.machine.specs.Session.{Result}
 use Rattle.machine.specs.Words.{wordsOf}
 use Rattle.machine.specs.declared.Report.{Report}
 use Rattle.called.specs.declared.Called.{Called}
@@ -17,14 +17,14 @@ abbrev pub wordsAfter : Report → (words : List ℕ) → List ℕ
 wordsAfter r words = cond (eqb (r .number) 0) (wordsOf (r .session)) words
 
 -- over memories M
-pub record Given (M : Type 0) : Type 0 where
+pub record Handed (M : Type 0) : Type 0 where
   pub called : Called
   pub words : List ℕ
   pub reply : List ℕ
   pub memories : M
 
-abbrev pub given : {M : Type 0} → Called → (words reply : List ℕ) → M → Given M
-given called words reply mem = record { called = called; words = words; reply = reply; memories = mem }
+abbrev pub handed : {M : Type 0} → Called → (words reply : List ℕ) → M → Handed M
+handed called words reply mem = record { called = called; words = words; reply = reply; memories = mem }
 
-abbrev pub givenOf : {M : Type 0} → Answer M → Given M
-givenOf a = given (calledOf (a .report)) (wordsOf (a .report .session)) (a .reply) (a .memories)
+abbrev pub handedOf : {M : Type 0} → Result M → Handed M
+handedOf a = handed (calledOf (a .report)) (wordsOf (a .report .session)) (a .reply) (a .memories)

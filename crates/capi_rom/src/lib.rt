@@ -1,9 +1,9 @@
 // The functions by which C has a receiver: a fresh record, and a call.
 ghost use mathlib.Core.Path.{_≡_};
-ghost use Rattle.machine.specs.Session.{answerOf};
+ghost use Rattle.machine.specs.Session.{resultOf};
 ghost use Rattle.machine.specs.Words.{recordOf, wordsOf};
 ghost use Rattle.rom.specs.Session.{freshRecord, rom};
-ghost use Rattle.called.specs.Called.{given, givenOf};
+ghost use Rattle.called.specs.Called.{handed, handedOf};
 use called::Called;
 use called::hand_back;
 use machine::words::put;
@@ -26,7 +26,7 @@ pub extern "C" fn und_rom_call(
     reply: &mut [u8],
     ram: &mut [u8],
 ) -> Called
-    ensures { λ r. ⌜ given r (now (words .exit)) (now (reply .exit)) (now (ram .exit)) ≡ givenOf (answerOf rom (recordOf (now (words .entry))) (now (ram .entry)) (now (input .entry)) (now (reply .entry))) ⌝ }
+    ensures { λ r. ⌜ handed r (now (words .exit)) (now (reply .exit)) (now (ram .exit)) ≡ handedOf (resultOf rom (recordOf (now (words .entry))) (now (ram .entry)) (now (input .entry)) (now (reply .entry))) ⌝ }
 {
     let old = *words;
     let report = rom::session::call(record_of(old), input, reply, ram);

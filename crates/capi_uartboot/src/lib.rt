@@ -1,11 +1,11 @@
 // The functions by which C has a uartboot session: a fresh record, and a call.
 ghost use mathlib.Core.Path.{_≡_};
-ghost use Rattle.machine.specs.Session.{answerOf};
+ghost use Rattle.machine.specs.Session.{resultOf};
 ghost use Rattle.machine.specs.Words.{recordOf, wordsOf};
-ghost use Rattle.command_execution.specs.Memories.{memories};
+ghost use Rattle.memory.specs.Memories.{memories};
 ghost use Rattle.uartboot_flow.specs.Fresh.{freshRecord};
 ghost use Rattle.uartboot.specs.Session.{uartboot};
-ghost use Rattle.called.specs.Called.{given, givenOf};
+ghost use Rattle.called.specs.Called.{handed, handedOf};
 use called::Called;
 use called::hand_back;
 use machine::words::put;
@@ -30,7 +30,7 @@ pub extern "C" fn und_uartboot_call(
     flash: &mut [u8],
     work: &mut [u8],
 ) -> Called
-    ensures { λ r. ⌜ given r (now (words .exit)) (now (reply .exit)) (memories (now (ram .exit)) (now (flash .exit)) (now (work .exit))) ≡ givenOf (answerOf uartboot (recordOf (now (words .entry))) (memories (now (ram .entry)) (now (flash .entry)) (now (work .entry))) (now (input .entry)) (now (reply .entry))) ⌝ }
+    ensures { λ r. ⌜ handed r (now (words .exit)) (now (reply .exit)) (memories (now (ram .exit)) (now (flash .exit)) (now (work .exit))) ≡ handedOf (resultOf uartboot (recordOf (now (words .entry))) (memories (now (ram .entry)) (now (flash .entry)) (now (work .entry))) (now (input .entry)) (now (reply .entry))) ⌝ }
 {
     let old = *words;
     let report = uartboot::session::call(record_of(old), input, reply, ram, flash, work);

@@ -13,7 +13,7 @@ use Rattle.wire.specs.Unit.{ramBase}
 use Rattle.wire.proofs.Tests.{in-cond}
 use Rattle.memory.specs.Store.{laid, changedFrom, partOf}
 use Rattle.memory.specs.Flash.{burnt, Area}
-use Rattle.memory.specs.Compare.{stands}
+use Rattle.memory.specs.Compare.{isFront}
 use Rattle.memory.proofs.Stores.{changed-length, laid-length, part-length}
 use Rattle.memory.proofs.Flashes.{burnt-length, erased-length}
 use Rattle.command.specs.declared.opcode.Opcode.{Opcode}
@@ -26,7 +26,7 @@ use Rattle.command.specs.Version.{version}
 use Rattle.command.specs.Check.{checksOf}
 use Rattle.command_execution.specs.declared.Ending.{Ending}
 use Rattle.command_execution.specs.declared.Ending.the-variants.{Silent, Answers, Runs, Failed}
-use Rattle.command_execution.specs.Memories.{Memories, Fitting, SameLengths}
+use Rattle.memory.specs.Memories.{Memories, Fitting, SameLengths}
 use Rattle.command_execution.specs.Execution.{Executed, ended, isRunning, isAnswering, checked, executed, performed, Answering}
 use Rattle.command_execution.specs.Execution.{placeOf, answered, directWritten, verifyDiffers}
 use Rattle.command_execution.proofs.Checks.{Passed, allowed}
@@ -63,7 +63,7 @@ in-executed Q opcode count m done failed =
 in-written : (Q : Ending → Type 0) (verify offset : ℕ) (bytes : List ℕ) (m : Memories) → Q Silent → Q (Failed verifyDiffers)
     → Q (directWritten verify offset bytes m .ending)
 in-written Q verify offset bytes m silent failed =
-    in-cond Q (not (eqb verify 1) || stands bytes (drop offset (changedFrom offset (burnt bytes) (m .flash)))) Silent (Failed verifyDiffers)
+    in-cond Q (not (eqb verify 1) || isFront bytes (drop offset (changedFrom offset (burnt bytes) (m .flash)))) Silent (Failed verifyDiffers)
     (λ t. silent)
     (λ t. failed)
 

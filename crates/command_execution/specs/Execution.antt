@@ -10,7 +10,7 @@ use Rattle.wire.specs.Unit.{ramBase}
 use Rattle.wire.specs.declared.unit.RamAddress.{RamAddress}
 use Rattle.memory.specs.Store.{laid, changedFrom, partOf}
 use Rattle.memory.specs.Flash.{burnt, blank, erased}
-use Rattle.memory.specs.Compare.{stands}
+use Rattle.memory.specs.Compare.{isFront}
 use Rattle.command.specs.declared.opcode.Opcode.{Opcode}
 use Rattle.command.specs.declared.opcode.Opcode.the-variants as op
 use Rattle.command.specs.declared.payload.Command.{Command}
@@ -21,7 +21,7 @@ use Rattle.command.specs.Version.{version}
 use Rattle.command.specs.Check.{checksOf, judged}
 use Rattle.command_execution.specs.declared.Ending.{Ending}
 use Rattle.command_execution.specs.declared.Ending.the-variants.{Silent, Answers, Runs, Failed}
-use Rattle.command_execution.specs.Memories.{Memories, memories, Fitting}
+use Rattle.memory.specs.Memories.{Memories, memories, Fitting}
 
 -- flash differs from the command's data
 abbrev pub verifyDiffers : ℕ
@@ -54,9 +54,9 @@ placeOf address = address .0 - ramBase
 
 -- a Direct write's end: where verify is 1, the bytes must stand in flash; the store stays either way
 abbrev pub verified : (verify offset : ℕ) (bytes flash : List ℕ) → Ending
-verified verify offset bytes flash = cond (not (eqb verify 1) || stands bytes (drop offset flash)) Silent (Failed verifyDiffers)
+verified verify offset bytes flash = cond (not (eqb verify 1) || isFront bytes (drop offset flash)) Silent (Failed verifyDiffers)
 
--- the answer stands at the front of the work buffer, whose other bytes stay
+-- the answer isFront at the front of the work buffer, whose other bytes stay
 abbrev pub answered : (bytes : List ℕ) → Memories → Executed
 answered bytes m = ended (Answers (length bytes)) (memories (m .ram) (m .flash) (laid bytes (m .work)))
 

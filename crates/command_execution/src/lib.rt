@@ -4,10 +4,10 @@ ghost use Prim.Native.Nat.{_+_, _-_, _≤_};
 ghost use lib.ListN.{length};
 ghost use Rattle.memory.specs.Store.{laid, changedFrom, partOf};
 ghost use Rattle.memory.specs.Flash.{burnt};
-ghost use Rattle.memory.specs.Compare.{stands};
+ghost use Rattle.memory.specs.Compare.{isFront};
 ghost use Rattle.wire.specs.Unit.{ramBase};
 ghost use Rattle.command.specs.Payload.{Carried};
-ghost use Rattle.command_execution.specs.Memories.{memories, Fitting};
+ghost use Rattle.memory.specs.Memories.{memories, Fitting};
 ghost use Rattle.command_execution.specs.Execution.{ended, verified, performed, executed, Allowed};
 use command::check::check;
 use command::opcode::Opcode;
@@ -15,7 +15,7 @@ use command::opcode::data_place;
 use command::payload::Command;
 use command::payload::command_of;
 use command::version::VERSION;
-use memory::compare::stands;
+use memory::compare::is_front;
 use memory::flash::burn;
 use memory::flash::erase;
 use memory::flash::wipe;
@@ -72,7 +72,7 @@ fn direct_write(verify: u8, offset: usize, bytes: &[u8], flash: &mut [u8]) -> En
 {
     burn(&mut flash[offset..], bytes);
     if verify == 1 {
-        if stands(bytes, &flash[offset..]) {
+        if is_front(bytes, &flash[offset..]) {
             Ending::Silent
         } else {
             Ending::Failed(VERIFY_DIFFERS)

@@ -21,7 +21,7 @@ use Rattle.rom_record.specs.Record.{written}
 use Rattle.memory.specs.Flash.{burnt, blank}
 use Rattle.command.specs.declared.opcode.Opcode.the-variants.{Erase}
 use Rattle.command_execution.specs.declared.Ending.the-variants.{Silent}
-use Rattle.command_execution.specs.Memories.{Memories, memories}
+use Rattle.memory.specs.Memories.{Memories, memories}
 use Rattle.command_execution.specs.Execution.{executed}
 use Rattle.uartboot_flow.specs.declared.step.Step.the-variants.{Header}
 use Rattle.uartboot_flow.specs.declared.step.HeaderStep.the-variants as uartboot-step

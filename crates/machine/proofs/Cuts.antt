@@ -12,7 +12,7 @@ use Rattle.machine.specs.Call.{call, calls}
 use Rattle.machine.specs.Uncut.{uncut}
 use Rattle.machine.specs.History.{Came}
 use Rattle.machine.specs.Lawful.{Every, Lawful}
-use Rattle.machine.specs.Claim.{Begins, Stopped, waits, running, Holds, Claim}
+use Rattle.machine.specs.Cuts.{Begins, Stopped, waits, running, Agrees, CutsNeverMatter}
 use Rattle.machine.proofs.Outcomes.{halt-join, join-halt}
 use Rattle.machine.proofs.Actions.{uncut-run, uncut-short, uncut-act}
 use Rattle.machine.proofs.Paths.{begins-take, begins-drop, path-keeps, call-came, calls-came, at-start, path-continues, uncut-came}
@@ -75,9 +75,9 @@ module _ {A S : Type 0} (m : Machine A S) {Good : A → Type 0} {Sound : S → T
       enough-room shown room h = unless-full m _ _ (λ views e v. room-lacks shown room views h e v)
 
     -- the claim, for what has come to o
-    pub came-holds : (o : Outcome S) → Came m start stream o → Holds m start stream o (uncut m start stream)
+    pub came-agrees : (o : Outcome S) → Came m start stream o → Agrees m start stream o (uncut m start stream)
     unfolding rest
-    came-holds o c =
+    came-agrees o c =
         record {
           definition-stops = uncut-stops m law start g stream w;
           replies-begin = record { back = uncut m (o .final) (drop (o .taken) stream) .replies; is = ap (λ x. x .replies) (continues o c) };
@@ -88,7 +88,7 @@ module _ {A S : Type 0} (m : Machine A S) {Good : A → Type 0} {Sound : S → T
         }
 
 -- cuts never matter
-pub cuts-never-matter : {A S : Type 0} (m : Machine A S) {Good : A → Type 0} {Sound : S → Type 0} → Lawful m Good Sound → Claim m Good Sound
+pub cuts-never-matter : {A S : Type 0} (m : Machine A S) {Good : A → Type 0} {Sound : S → Type 0} → Lawful m Good Sound → CutsNeverMatter m Good Sound
 cuts-never-matter m law start g stream w cs =
     let c = calls-came m law start stream cs (halt start) (at-start m law start stream) in
-    came-holds m law start g stream w (calls m start stream cs) (rw (halt-join start (calls m start stream cs)) at c)
+    came-agrees m law start g stream w (calls m start stream cs) (rw (halt-join start (calls m start stream cs)) at c)

@@ -7,7 +7,7 @@ pub mod Sessions
 pub mod Loops
 pub mod Lines
 pub mod Refusals
-pub mod Answers
+pub mod Results
 pub mod Records
 pub mod Shapes
 pub mod Doing

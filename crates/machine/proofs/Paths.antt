@@ -18,7 +18,7 @@ use Rattle.machine.specs.Call.{Call, offered, refused, act, call, calls}
 use Rattle.machine.specs.Uncut.{drainAt, drain, feed, uncut}
 use Rattle.machine.specs.History.{Event, Way, here, more, Came, trace, Leads}
 use Rattle.machine.specs.Lawful.{Every, Kept, Lawful, Any}
-use Rattle.machine.specs.Claim.{Begins}
+use Rattle.machine.specs.Cuts.{Begins}
 use Rattle.machine.proofs.Outcomes.{join-assoc, halt-join, join-halt}
 use Rattle.machine.proofs.Actions.{drain-takes-none, uncut-act}
 

@@ -6,7 +6,7 @@ use mathlib.Core.List.{List}
 use lib.ListN.{length}
 use Rattle.machine.specs.Call.{call}
 use Rattle.machine.specs.Lawful.{Any, Kept, Lawful}
-use Rattle.machine.specs.Session.{Session, sound, accepted, answerOf}
+use Rattle.machine.specs.Session.{Session, sound, accepted, resultOf}
 use Rattle.machine.specs.Reach.{Reach}
 use Rattle.machine.specs.declared.Record.{Record}
 use Rattle.machine.proofs.Paths.{call-keeps, all-any}
@@ -28,8 +28,8 @@ pub record Lasting {A M S : Type 0} (σ : Session A M S) (Same : M → M → Typ
   pub held-read : (mem mem′ : M) (s : S) → Held mem s → Same mem′ mem → Readable σ (σ .write s) mem′
 
 module _ {A M S : Type 0} (σ : Session A M S) where
-  readable-accepted : (r : Record) (mem : M) (input : List A) (reply : List ℕ) → Readable σ r mem → answerOf σ r mem input reply .report .number ≡ 0
-  unfolding answerOf accepted
+  readable-accepted : (r : Record) (mem : M) (input : List A) (reply : List ℕ) → Readable σ r mem → resultOf σ r mem input reply .report .number ≡ 0
+  unfolding resultOf accepted
   readable-accepted r mem input reply h = simp (h .fits, h .reads) refl
 
   -- the record that an accepted call hands out
@@ -50,5 +50,5 @@ module _ {A M S : Type 0} (σ : Session A M S) where
             let start : Held mem s = l .read-held r mem s (a .fits) (a .read-is) in
             let end = call (σ .machine) s input (length reply) .final in
             let h : Held mem end = call-keeps (σ .machine) (l .lawful mem) s input (l .lawful mem .stays-sound) (all-any input) start (length reply) in
-            rw (a .answer-is, handed-out s input reply) (readable-accepted (σ .write end) mem′ input′ reply′ (l .held-read mem mem′ end h same));
+            rw (a .result-is, handed-out s input reply) (readable-accepted (σ .write end) mem′ input′ reply′ (l .held-read mem mem′ end h same));
       }

@@ -11,7 +11,7 @@ use lib.ListN.{length}
 use borrow.Table.Steps.{cases}
 use Rattle.machine.specs.Machine.{Need, acts, runs, Machine}
 use Rattle.machine.specs.Lawful.{Any, takes-some, stops, Moves, Lawful}
-use Rattle.machine.specs.Claim.{Claim}
+use Rattle.machine.specs.Cuts.{CutsNeverMatter}
 use Rattle.machine.proofs.Stops.{viewsOf, not-both}
 use Rattle.machine.proofs.Cuts.{cuts-never-matter}
 
@@ -28,7 +28,7 @@ slots-lawful width some =
       due-falls = λ s g e. let v : width ≡ 0 = ap viewsOf e in absurd (let z : ⊥ = omega arith in z);
     }
 
-pub slots-never-matter : (width : ℕ) → 0 < width → Claim (slots width) Any Any
+pub slots-never-matter : (width : ℕ) → 0 < width → CutsNeverMatter (slots width) Any Any
 slots-never-matter width some = cuts-never-matter (slots width) (slots-lawful width some)
 
 -- a look at one symbol: `kept` stays, and nothing follows; any other is taken, and the look goes on
@@ -72,5 +72,5 @@ looks-lawful kept =
       due-falls = λ s g e. absurd (let z : ⊥ = omega (arith, look-views s 0 e) in z);
     }
 
-pub looks-never-matter : (kept : ℕ) → Claim (looks kept) Any Any
+pub looks-never-matter : (kept : ℕ) → CutsNeverMatter (looks kept) Any Any
 looks-never-matter kept = cuts-never-matter (looks kept) (looks-lawful kept)

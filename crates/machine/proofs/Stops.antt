@@ -17,7 +17,7 @@ use Rattle.machine.specs.Outcome.{Outcome, halt, acted, join}
 use Rattle.machine.specs.Call.{standingOf, standing, act, call, Blocked}
 use Rattle.machine.specs.Uncut.{drainAt, drain, feed, uncut}
 use Rattle.machine.specs.Lawful.{Every, Moves, takes-some, sends-some, stops, Lawful}
-use Rattle.machine.specs.Claim.{Stopped, waits, running}
+use Rattle.machine.specs.Cuts.{Stopped, waits, running}
 use Rattle.machine.proofs.Paths.{every-take, every-drop}
 use Rattle.machine.proofs.Actions.{call-run, call-full, call-act, drain-takes-none}
 

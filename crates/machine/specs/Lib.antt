@@ -7,7 +7,7 @@ pub mod Uncut
 pub mod History
 pub mod Acknowledged
 pub mod Lawful
-pub mod Claim
+pub mod Cuts
 pub mod Words
 pub mod Session
 pub mod Loop

@@ -6,7 +6,7 @@ use mathlib.Core.List.{List, [], _∷_, _++_}
 use lib.ListN.{length, take, drop}
 use Rattle.machine.specs.Outcome.{Outcome}
 use Rattle.machine.specs.Uncut.{uncut}
-use Rattle.machine.specs.Session.{Session, Answer, answerOf}
+use Rattle.machine.specs.Session.{Session, Result, resultOf}
 use Rattle.machine.specs.declared.Record.{Record}
 
 -- a call of the list: how many of the symbols not yet taken it is shown, and the reply slice that it is lent
@@ -24,7 +24,7 @@ pub record Given (M : Type 0) : Type 0 where
 
 -- a list's totals: 01's joined replies (the sent bytes of all calls in call order), its total counts (the calls' counts added up),
 -- and the last record and memories
-abbrev pub totals : {M : Type 0} → Record → M → List (Answer M) → Given M
+abbrev pub totals : {M : Type 0} → Record → M → List (Result M) → Given M
 totals session mem [] = record { replies = []; taken = 0; sent = 0; session = session; memories = mem }
 totals session mem (a ∷ later) =
     let g = totals (a .report .session) (a .memories) later in
@@ -37,12 +37,12 @@ totals session mem (a ∷ later) =
     }
 
 module _ {A M S : Type 0} (σ : Session A M S) where
-  -- what the calls of a list answer, where `rest` is the part of the stream not yet taken
-  unfoldable pub answers : Record → M → (rest : List A) → List Lent → List (Answer M)
-  answers session mem rest [] = []
-  answers session mem rest (c ∷ later) =
-      let a = answerOf σ session mem (take (c .shown) rest) (c .reply) in
-      a ∷ answers (a .report .session) (a .memories) (drop (a .report .taken) rest) later
+  -- what the calls of a list give back, where `rest` is the part of the stream not yet taken
+  unfoldable pub results : Record → M → (rest : List A) → List Lent → List (Result M)
+  results session mem rest [] = []
+  results session mem rest (c ∷ later) =
+      let a = resultOf σ session mem (take (c .shown) rest) (c .reply) in
+      a ∷ results (a .report .session) (a .memories) (drop (a .report .taken) rest) later
 
   -- an outcome of the machine, as the caller would see it
   abbrev pub given : Outcome S → Given M
@@ -61,9 +61,9 @@ module _ {A M S : Type 0} (σ : Session A M S) where
   definitionOf start stream = given (uncut (σ .machine) start stream)
 
   -- what a program's calls gave back, each as the definition says, with the record and the memories that the one before it left
-  pub data Made : Record → M → (rest : List A) → List Lent → List (Answer M) → Type 0 where
+  pub data Made : Record → M → (rest : List A) → List Lent → List (Result M) → Type 0 where
     none : {session : Record} {mem : M} {rest : List A} → Made session mem rest [] []
-    next : {session : Record} {mem : M} {rest : List A} {c : Lent} {later : List Lent} {a : Answer M} {others : List (Answer M)} →
-        a ≡ answerOf σ session mem (take (c .shown) rest) (c .reply) →
+    next : {session : Record} {mem : M} {rest : List A} {c : Lent} {later : List Lent} {a : Result M} {others : List (Result M)} →
+        a ≡ resultOf σ session mem (take (c .shown) rest) (c .reply) →
         Made (a .report .session) (a .memories) (drop (a .report .taken) rest) later others →
         Made session mem rest (c ∷ later) (a ∷ others)

@@ -28,7 +28,7 @@ pub record Session (A M S : Type 0) : Type 0 where
   pub memories : S → M
 
 -- what a call gives back, with the lent slices after it
-pub record Answer (M : Type 0) : Type 0 where
+pub record Result (M : Type 0) : Type 0 where
   pub report : Report
   pub reply : List ℕ
   pub memories : M
@@ -41,12 +41,12 @@ badRecord = 4
 abbrev pub refusedReport : (number : ℕ) → Record → Report
 refusedReport number session = record { number = number; standing = 0; taken = 0; sent = 0; session = session }
 
-abbrev pub refused : {M : Type 0} → (number : ℕ) → Record → (reply : List ℕ) → M → Answer M
+abbrev pub refused : {M : Type 0} → (number : ℕ) → Record → (reply : List ℕ) → M → Result M
 refused number session reply mem = record { report = refusedReport number session; reply = reply; memories = mem }
 
 module _ {A M S : Type 0} (σ : Session A M S) where
   -- an accepted call at s
-  unfoldable pub accepted : S → (input : List A) (reply : List ℕ) → Answer M
+  unfoldable pub accepted : S → (input : List A) (reply : List ℕ) → Result M
   accepted s input reply =
       let o = call (σ .machine) s input (length reply) in
       record {
@@ -61,13 +61,13 @@ module _ {A M S : Type 0} (σ : Session A M S) where
         memories = σ .memories (o .final);
       }
 
-  abbrev pub readAnswer : Read S → Record → M → (input : List A) (reply : List ℕ) → Answer M
-  readAnswer (sound s) session mem input reply = accepted s input reply
-  readAnswer unsound session mem input reply = refused badRecord session reply mem
+  abbrev pub readResult : Read S → Record → M → (input : List A) (reply : List ℕ) → Result M
+  readResult (sound s) session mem input reply = accepted s input reply
+  readResult unsound session mem input reply = refused badRecord session reply mem
 
   -- a call: lengths first, then the record
-  unfoldable pub answerOf : Record → M → (input : List A) (reply : List ℕ) → Answer M
-  answerOf session mem input reply =
+  unfoldable pub resultOf : Record → M → (input : List A) (reply : List ℕ) → Result M
+  resultOf session mem input reply =
       cond (eqb (σ .refusal mem) 0)
-      (readAnswer (σ .read session mem) session mem input reply)
+      (readResult (σ .read session mem) session mem input reply)
       (refused (σ .refusal mem) session reply mem)

@@ -8,16 +8,16 @@ use native.Mathlib.Numerals.{add-one}
 use lib.ListN.{length, drop, getD, drop-of-length-le}
 use lib.Seq.{drop-cons}
 use borrow.Author.Tests.{eq-eqb, ne-eqb}
-use Rattle.memory.specs.Compare.{stands}
+use Rattle.memory.specs.Compare.{isFront}
 
 -- the bytes from `i` on stand, or do not, as all of them do
-module _ (bytes part : List ℕ) (whole : Bool) (i : ℕ) (so-far : stands (drop i bytes) (drop i part) ≡ whole) where
+module _ (bytes part : List ℕ) (whole : Bool) (i : ℕ) (so-far : isFront (drop i bytes) (drop i part) ≡ whole) where
   module _ (more : i < length bytes) (there : i < length part) where
-    pub stands-next : getD part i 0 ≡ getD bytes i 0 → stands (drop (i + 1) bytes) (drop (i + 1) part) ≡ whole
-    stands-next same = rw add-one (simp (eq-eqb _ _ same) at (rw (drop-cons bytes i 0 more, drop-cons part i 0 there) at so-far))
+    pub is-front-next : getD part i 0 ≡ getD bytes i 0 → isFront (drop (i + 1) bytes) (drop (i + 1) part) ≡ whole
+    is-front-next same = rw add-one (simp (eq-eqb _ _ same) at (rw (drop-cons bytes i 0 more, drop-cons part i 0 there) at so-far))
 
-    pub stands-not : (getD part i 0 ≡ getD bytes i 0 → ⊥) → false ≡ whole
-    stands-not other = simp (ne-eqb _ _ other) at (rw (drop-cons bytes i 0 more, drop-cons part i 0 there) at so-far)
+    pub is-front-not : (getD part i 0 ≡ getD bytes i 0 → ⊥) → false ≡ whole
+    is-front-not other = simp (ne-eqb _ _ other) at (rw (drop-cons bytes i 0 more, drop-cons part i 0 there) at so-far)
 
-  pub stands-end : length bytes ≤ i → true ≡ whole
-  stands-end past = rw (drop-of-length-le bytes past) at so-far
+  pub is-front-end : length bytes ≤ i → true ≡ whole
+  is-front-end past = rw (drop-of-length-le bytes past) at so-far

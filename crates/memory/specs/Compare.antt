@@ -6,7 +6,7 @@ use mathlib.Core.List.{List, [], _∷_}
 use lib.Dec.{eqb}
 
 -- a part of a memory begins with these bytes
-abbrev pub stands : (bytes part : List ℕ) → Bool
-stands [] part = true
-stands (byte ∷ bytes) [] = false
-stands (byte ∷ bytes) (there ∷ part) = eqb there byte && stands bytes part
+abbrev pub isFront : (bytes part : List ℕ) → Bool
+isFront [] part = true
+isFront (byte ∷ bytes) [] = false
+isFront (byte ∷ bytes) (there ∷ part) = eqb there byte && isFront bytes part

@@ -6,7 +6,7 @@ use mathlib.Core.Bool.{cond}
 use mathlib.Core.List.{List}
 use lib.ListN.{length}
 use Rattle.wire.specs.Length.{isRamLength, badRam}
-use Rattle.machine.specs.Session.{Read, sound, unsound, Session, Answer}
+use Rattle.machine.specs.Session.{Read, sound, unsound, Session, Result}
 use Rattle.machine.specs.declared.Record.{Record}
 use Rattle.machine.specs.declared.Report.{Report}
 use Rattle.rom_record.specs.declared.Decoded.{Decoded}
@@ -34,5 +34,5 @@ rom =
     }
 
 -- what a call gives back, with the reply and the RAM after it
-abbrev pub answer : Report → (reply ram : List ℕ) → Answer (List ℕ)
-answer report reply ram = record { report = report; reply = reply; memories = ram }
+abbrev pub result : Report → (reply ram : List ℕ) → Result (List ℕ)
+result report reply ram = record { report = report; reply = reply; memories = ram }

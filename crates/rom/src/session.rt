@@ -1,10 +1,10 @@
 // The receiver's session: the loop over its actions, and the call.
 ghost use mathlib.Core.Path.{_≡_};
 ghost use Rattle.machine.specs.Loop.{Acted};
-ghost use Rattle.machine.specs.Session.{answerOf};
+ghost use Rattle.machine.specs.Session.{resultOf};
 ghost use Rattle.rom_flow.specs.Receiver.{receiver};
 ghost use Rattle.rom_flow.specs.State.{state};
-ghost use Rattle.rom.specs.Session.{freshRecord, rom, answer};
+ghost use Rattle.rom.specs.Session.{freshRecord, rom, result};
 ghost use Rattle.rom_flow.specs.Sound.{Ready};
 use machine::BAD_RECORD;
 use machine::Record;
@@ -110,7 +110,7 @@ fn act(kind: Kind, first: Step, reason: u32, input: &[u8], reply: &mut [u8], ram
 
 // A call to the session.
 pub fn call(session: Record, input: &[u8], reply: &mut [u8], ram: &mut [u8]) -> Report
-    ensures { λ r. ⌜ answer r (now (reply .exit)) (now (ram .exit)) ≡ answerOf rom session (now (ram .entry)) (now (input .entry)) (now (reply .entry)) ⌝ }
+    ensures { λ r. ⌜ result r (now (reply .exit)) (now (ram .exit)) ≡ resultOf rom session (now (ram .entry)) (now (input .entry)) (now (reply .entry)) ⌝ }
 {
     let size = ram.len();
     if !is_ram_length(size) {

@@ -1,13 +1,14 @@
 -- The receiver's flow (01, "ROM receiver", and "Numbers given back": reasons 31 to 34). Each line says what a step does: it takes a
 -- byte, and the byte says where the flow goes, or it sends a byte and goes on.
 -- Assumes nothing.
-use Prim.Native.Nat.{ℕ, _+_, _*_}
+use Prim.Native.Nat.{ℕ, _+_}
 use mathlib.Core.Bool.{cond}
 use mathlib.Core.List.{List, [], _∷_}
 use lib.Bits.{bitXor}
 use lib.Dec.{eqb, leb, ltb}
 use lib.ListN.{length, take, set}
 use Rattle.wire.specs.Line.{stx, soh, ack, nak}
+use Rattle.wire.specs.Number.{paired}
 use Rattle.wire.specs.Unit.{firstAddress}
 use Rattle.machine.specs.Does.{Does, takes, sends, runs, tookOf}
 use Rattle.rom_flow.specs.declared.kind.Kind.{Kind}
@@ -73,9 +74,9 @@ module _ (kind : Kind) (reason : ℕ) (ram : List ℕ) where
   abbrev pub header : HeaderStep → Does ℕ State
   header TakeSoh = takes (λ byte. cond (eqb byte soh) (goes (Header TakeLow)) (refuses notSoh))
   header TakeLow = takes (λ byte. goes (Header (TakeHigh byte)))
-  header (TakeHigh low) = takes (λ byte. headed (low + 256 * byte))
+  header (TakeHigh low) = takes (λ byte. headed (paired low byte))
   header TakeExtendedLow = takes (λ byte. goes (Header (TakeExtendedHigh byte)))
-  header (TakeExtendedHigh low) = takes (λ byte. judged (firstExtended + (low + 256 * byte)))
+  header (TakeExtendedHigh low) = takes (λ byte. judged (firstExtended + paired low byte))
 
   -- the byte after the XOR: other than 06, nothing is sent, and the flow begins again
   abbrev pub acked : (byte : ℕ) → State

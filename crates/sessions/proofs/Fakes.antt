@@ -7,7 +7,7 @@ use mathlib.Core.Bool.{true}
 use mathlib.Core.List.{List, [], _∷_}
 use lib.ListN.{length, take, getD, replicate}
 use Rattle.machine.specs.Call.{act, call}
-use Rattle.machine.specs.Session.{Answer, accepted, answerOf}
+use Rattle.machine.specs.Session.{Result, accepted, resultOf}
 use Rattle.machine.specs.declared.Record.{Record}
 use Rattle.wire.specs.Bytes.{Word}
 use Rattle.wire.specs.Line.{ack, nak}
@@ -53,8 +53,8 @@ sample-fits uartboot = (are-bytes (small .ram) refl, are-bytes (small .flash) re
 possible : (kind : Kind) (input reply : List ℕ) → areBytes input ≡ true → areBytes reply ≡ true → Possible kind (start kind) (sample kind) input reply
 possible kind input reply i j = record { words = words-fit kind; memories = sample-fits kind; taken-from = are-bytes input i; sent-to = are-bytes reply j }
 
-abbrev firstCall : (kind : Kind) (input : List ℕ) → Answer (MemoriesOf kind)
-firstCall kind input = answerOf (sessionOf kind) (start kind) (sample kind) input room
+abbrev firstCall : (kind : Kind) (input : List ℕ) → Result (MemoriesOf kind)
+firstCall kind input = resultOf (sessionOf kind) (start kind) (sample kind) input room
 
 -- a stream that is refused
 abbrev refusedStream : Kind → List ℕ
@@ -74,20 +74,20 @@ refusedLength romE = 3
 refusedLength uartboot = 9
 
 calls-accepted : (kind : Kind) → (firstCall kind [] .report .number ≡ 0) × (firstCall kind (refusedStream kind) .report .number ≡ 0)
-unfolding answerOf accepted rom-record.decodedOf rom-record.stepIn rom-record.phaseIn isBetween isFlashLength device-record.decodedOf device-record.stepIn device-record.phaseIn device-session.refusalOf
+unfolding resultOf accepted rom-record.decodedOf rom-record.stepIn rom-record.phaseIn isBetween isFlashLength device-record.decodedOf device-record.stepIn device-record.phaseIn device-session.refusalOf
 calls-accepted romP = (refl, refl)
 calls-accepted romE = (refl, refl)
 calls-accepted uartboot = (refl, refl)
 
 first-sent : (kind : Kind) → firstCall kind [] .report .sent ≡ greetingLengthOf kind
-unfolding answerOf accepted act call rom-record.decodedOf rom-record.stepIn rom-record.phaseIn isBetween isFlashLength device-record.decodedOf device-record.stepIn device-record.phaseIn device-session.refusalOf
+unfolding resultOf accepted act call rom-record.decodedOf rom-record.stepIn rom-record.phaseIn isBetween isFlashLength device-record.decodedOf device-record.stepIn device-record.phaseIn device-session.refusalOf
 first-sent romP = refl
 first-sent romE = refl
 first-sent uartboot = refl
 
 bytes-sent : (kind : Kind) → (length (take (firstCall kind [] .report .sent) (firstCall kind [] .reply)) ≡ greetingLengthOf kind)
     × (length (take (firstCall kind (refusedStream kind) .report .sent) (firstCall kind (refusedStream kind) .reply)) ≡ refusedLength kind)
-unfolding answerOf accepted act call rom-record.decodedOf rom-record.stepIn rom-record.phaseIn isBetween isFlashLength device-record.decodedOf device-record.stepIn device-record.phaseIn device-session.refusalOf opcodeOf
+unfolding resultOf accepted act call rom-record.decodedOf rom-record.stepIn rom-record.phaseIn isBetween isFlashLength device-record.decodedOf device-record.stepIn device-record.phaseIn device-session.refusalOf opcodeOf
 bytes-sent romP = (refl, refl)
 bytes-sent romE = (refl, refl)
 bytes-sent uartboot = (refl, refl)
@@ -95,7 +95,7 @@ bytes-sent uartboot = (refl, refl)
 -- an accepted header is answered with 06
 acknowledged : (kind : Kind) → let a = firstCall kind (headerOf kind (acceptedLow kind) 0) in
     (a .report .number ≡ 0) × (getD (a .reply) (greetingLengthOf kind) 0 ≡ ack)
-unfolding answerOf accepted act call rom-record.decodedOf rom-record.stepIn rom-record.phaseIn isBetween isFlashLength device-record.decodedOf device-record.stepIn device-record.phaseIn device-session.refusalOf opcodeOf
+unfolding resultOf accepted act call rom-record.decodedOf rom-record.stepIn rom-record.phaseIn isBetween isFlashLength device-record.decodedOf device-record.stepIn device-record.phaseIn device-session.refusalOf opcodeOf
 acknowledged romP = (refl, refl)
 acknowledged romE = (refl, refl)
 acknowledged uartboot = (refl, refl)
@@ -117,7 +117,7 @@ some uartboot e = omega arith
 
 numbered : (kind : Kind) (f : Routine kind) → Keeps kind f → (input : List ℕ) → areBytes input ≡ true →
     f (start kind) (sample kind) input room .report .number ≡ firstCall kind input .report .number
-numbered kind f keeps input e = ap (λ (a : Answer (MemoriesOf kind)). a .report .number) (keeps (start kind) (sample kind) input room (possible kind input room e refl))
+numbered kind f keeps input e = ap (λ (a : Result (MemoriesOf kind)). a .report .number) (keeps (start kind) (sample kind) input room (possible kind input room e refl))
 
 -- the streams below are of bytes
 refused-bytes : (kind : Kind) → areBytes (refusedStream kind) ≡ true
@@ -131,16 +131,16 @@ header-bytes romE = refl
 header-bytes uartboot = refl
 
 -- a call with both Writes and room for all replies
-both-written : answerOf (sessionOf uartboot) freshRecord small twoWrites (replicate 64 0x00) .memories .ram ≡ 0x11 ∷ 0x22 ∷ []
-unfolding answerOf accepted act call isBetween isFlashLength device-record.decodedOf device-record.stepIn device-record.phaseIn device-session.refusalOf judged executed opcodeOf numberAt liesIn
+both-written : resultOf (sessionOf uartboot) freshRecord small twoWrites (replicate 64 0x00) .memories .ram ≡ 0x11 ∷ 0x22 ∷ []
+unfolding resultOf accepted act call isBetween isFlashLength device-record.decodedOf device-record.stepIn device-record.phaseIn device-session.refusalOf judged executed opcodeOf numberAt liesIn
 both-written = refl
 
--- how many bytes an answer shows
-abbrev shownBy : (kind : Kind) → Answer (MemoriesOf kind) → ℕ
+-- how many bytes a result shows
+abbrev shownBy : (kind : Kind) → Result (MemoriesOf kind) → ℕ
 shownBy kind a = length (take (a .report .sent) (a .reply))
 
 pub nobody-fakes : NobodyFakes
-unfolding answerOf accepted
+unfolding resultOf accepted
 nobody-fakes =
     record {
       no-constant-refusal = λ kind f keeps refuses.
@@ -157,13 +157,13 @@ nobody-fakes =
           let header = headerOf kind (acceptedLow kind) 0 in
           let here = possible kind header room (header-bytes kind) refl in
           let nak-sent = naks (sample kind) (acceptedLow kind) 0 room here (some-low kind) refl (numbered kind f keeps header (header-bytes kind) ∙ acknowledged kind .0) in
-          let ack-sent = ap (λ (a : Answer (MemoriesOf kind)). getD (a .reply) (greetingLengthOf kind) 0) (keeps (start kind) (sample kind) header room here) ∙ acknowledged kind .1 in
+          let ack-sent = ap (λ (a : Result (MemoriesOf kind)). getD (a .reply) (greetingLengthOf kind) 0) (keeps (start kind) (sample kind) header room here) ∙ acknowledged kind .1 in
           let z : ack ≡ nak = sym ack-sent ∙ nak-sent in omega arith;
       no-idling = λ kind f keeps idles.
           let here = possible kind [] room refl refl in
-          some kind (sym (ap (λ (a : Answer (MemoriesOf kind)). a .report .sent) (keeps (start kind) (sample kind) [] room here) ∙ first-sent kind)
+          some kind (sym (ap (λ (a : Result (MemoriesOf kind)). a .report .sent) (keeps (start kind) (sample kind) [] room here) ∙ first-sent kind)
           ∙ idles (start kind) (sample kind) [] room here .1);
       no-invented-counts = λ kind f keeps r mem s input reply here fits reads.
           rw (keeps r mem input reply here) (simp (fits, reads) (refl, refl));
-      no-bare-acknowledgement = λ f keeps. ap (λ (a : Answer (MemoriesOf uartboot)). a .memories .ram) (keeps freshRecord small twoWrites (replicate 64 0x00) (possible uartboot twoWrites (replicate 64 0x00) refl refl)) ∙ both-written;
+      no-bare-acknowledgement = λ f keeps. ap (λ (a : Result (MemoriesOf uartboot)). a .memories .ram) (keeps freshRecord small twoWrites (replicate 64 0x00) (possible uartboot twoWrites (replicate 64 0x00) refl refl)) ∙ both-written;
     }

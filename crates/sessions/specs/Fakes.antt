@@ -8,19 +8,19 @@ use Rattle.wire.specs.Bytes.{Bytes, Word}
 use Rattle.wire.specs.Line.{soh, nak}
 use Rattle.machine.specs.Call.{call}
 use Rattle.machine.specs.Lawful.{Every}
-use Rattle.machine.specs.Session.{Answer, sound, answerOf}
+use Rattle.machine.specs.Session.{Result, sound, resultOf}
 use Rattle.machine.specs.Words.{wordsOf}
 use Rattle.machine.specs.declared.Record.{Record}
 use Rattle.command.specs.declared.opcode.Opcode.the-variants.{Erase}
 use Rattle.command.specs.Opcode.{opcodeNumber}
-use Rattle.command_execution.specs.Memories.{Memories, memories}
+use Rattle.memory.specs.Memories.{Memories, memories}
 use Rattle.uartboot_flow.specs.Flow.{greetingLength}
 use Rattle.uartboot_flow.specs.Fresh.{freshRecord}
 use Rattle.sessions.specs.Kind.{Kind, romP, romE, uartboot, MemoriesOf, StateOf, sessionOf, freshRecordOf}
 
 -- a session call's routine
 abbrev pub Routine : Kind → Type 0
-Routine kind = Record → MemoriesOf kind → (input reply : List ℕ) → Answer (MemoriesOf kind)
+Routine kind = Record → MemoriesOf kind → (input reply : List ℕ) → Result (MemoriesOf kind)
 
 abbrev pub InBytes : (kind : Kind) → MemoriesOf kind → Type 0
 InBytes romP ram = Bytes ram
@@ -38,7 +38,7 @@ pub record Possible (kind : Kind) (r : Record) (mem : MemoriesOf kind) (input re
 abbrev pub Keeps : (kind : Kind) → Routine kind → Type 0
 Keeps kind f =
     (r : Record) (mem : MemoriesOf kind) (input reply : List ℕ) → Possible kind r mem input reply →
-    f r mem input reply ≡ answerOf (sessionOf kind) r mem input reply
+    f r mem input reply ≡ resultOf (sessionOf kind) r mem input reply
 
 abbrev pub AlwaysRefuses : (kind : Kind) → Routine kind → Type 0
 AlwaysRefuses kind f =

@@ -14,7 +14,7 @@ use Rattle.rom_flow.specs.State as receiver-state
 use Rattle.rom_record.specs.Record.{kindNumber}
 use Rattle.rom.specs.Session.{freshRecord, rom}
 use Rattle.rom.specs.Awaits as rom-awaits
-use Rattle.command_execution.specs.Memories.{Memories, SameLengths}
+use Rattle.memory.specs.Memories.{Memories, SameLengths}
 use Rattle.uartboot_flow.specs.State as device
 use Rattle.uartboot_flow.specs.Fresh as device-fresh
 use Rattle.uartboot.specs.Session as device-session

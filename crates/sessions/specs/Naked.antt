@@ -7,7 +7,7 @@ use mathlib.Core.Bool.{true, false}
 use mathlib.Core.List.{List, [], _∷_, _++_}
 use lib.ListN.{length, replicate}
 use Rattle.machine.specs.History.{Event, trace, Leads}
-use Rattle.command_execution.specs.Memories.{Memories}
+use Rattle.memory.specs.Memories.{Memories}
 use Rattle.uartboot_flow.specs.State.{State}
 use Rattle.uartboot_flow.specs.Fresh.{fresh}
 use Rattle.uartboot_flow.specs.Device.{device}

@@ -15,7 +15,7 @@ use Rattle.machine.specs.Acknowledged.{RunsExactly}
 use Rattle.machine.specs.SessionLaws.{OneByOne, Faithful}
 use Rattle.machine.proofs.Acknowledgements.{runs-on}
 use Rattle.machine.proofs.Doing.{Leaves, does-one, does-speaks, does-kept, leaves-weaken}
-use Rattle.command_execution.specs.Memories.{Memories}
+use Rattle.memory.specs.Memories.{Memories}
 use Rattle.uartboot_flow.specs.declared.step.Step.{Step}
 use Rattle.uartboot_flow.specs.declared.step.Step.the-variants.{Greeting, Header, Command, Answer, Refusal, Running}
 use Rattle.uartboot_flow.specs.State.{State}
@@ -29,7 +29,7 @@ use Rattle.uartboot_flow.proofs.Sounds.{Held, stays-held}
 use Rattle.uartboot_record.specs.Record.{written}
 use Rattle.uartboot_record.proofs.Records.{reads-back}
 use Rattle.uartboot.specs.Session.{uartboot}
-use Rattle.uartboot.specs.History.{awaits, isEarly, isRefusal, begins, Last, since, noted, lastOf, Kept, Unchanged}
+use Rattle.uartboot.specs.History.{awaits, isEarly, isRefusal, begins, Last, since, noted, lastOf, SameSince, Unchanged}
 use Rattle.uartboot.specs.History as history
 use Rattle.uartboot.proofs.Calls.{fitting, fitting-accepted}
 use Rattle.uartboot.proofs.Histories.{Stores, isBefore, Goes, quiet, GoesIf, ChecksAt, Left, Lefts, does-left}
@@ -144,7 +144,7 @@ faithful =
     }
 
 -- what the invariant says of the history
-kept-at : (last : Last) (s : State) → Began last s → Kept last s
+kept-at : (last : Last) (s : State) → Began last s → SameSince last s
 kept-at history.none s h = tt
 kept-at (since m false) s h = tt
 kept-at (since m true) s h = h .1

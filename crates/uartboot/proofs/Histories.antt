@@ -20,7 +20,7 @@ use Rattle.command.specs.Payload.{commandOf}
 use Rattle.command.proofs.Opcodes.{bare-never-run}
 use Rattle.command_execution.specs.declared.Ending.{Ending}
 use Rattle.command_execution.specs.declared.Ending.the-variants.{Silent, Answers, Runs, Failed}
-use Rattle.command_execution.specs.Memories.{Memories}
+use Rattle.memory.specs.Memories.{Memories}
 use Rattle.command_execution.specs.Execution.{checked, executed}
 use Rattle.command_execution.specs.Execution as execution
 use Rattle.command_execution.proofs.Executions.{run-starts, others-never-run}

@@ -9,7 +9,7 @@ use Rattle.machine.specs.Session.{sound}
 use Rattle.machine.specs.declared.Record.{Record}
 use Rattle.machine.proofs.Reaches.{Readable, Lasting, reach}
 use Rattle.machine.proofs.Refusals.{sound-same, never-sound}
-use Rattle.command_execution.specs.Memories.{Memories, SameLengths}
+use Rattle.memory.specs.Memories.{Memories, SameLengths}
 use Rattle.uartboot_flow.specs.State.{State, state}
 use Rattle.uartboot_flow.specs.Fresh.{freshRecord, fresh}
 use Rattle.uartboot_flow.proofs.Laws.{same-lengths, held}

@@ -10,7 +10,7 @@ use Rattle.machine.specs.Loop.{Acted}
 use Rattle.machine.specs.Steps.{Taken, Shown}
 use Rattle.machine.proofs.Turns.{Turn}
 use Rattle.machine.proofs.Turns as turns
-use Rattle.command_execution.specs.Memories.{Memories}
+use Rattle.memory.specs.Memories.{Memories}
 use Rattle.uartboot_flow.specs.declared.step.Step.{Step}
 use Rattle.uartboot_flow.specs.declared.step.Moved.{Moved}
 use Rattle.uartboot_flow.specs.declared.ask.Taking.{Taking}
@@ -22,8 +22,8 @@ use Rattle.uartboot_flow.specs.Flow.{does}
 use Rattle.uartboot_flow.specs.Due.{due}
 use Rattle.uartboot_flow.specs.Device.{device}
 use Rattle.uartboot_flow.specs.Sound.{Ready}
-use Rattle.uartboot_flow.specs.Ask.{stepOf, SendsSo, ReadyTo, Asked, SentSo, Short}
-use Rattle.uartboot_flow.proofs.Asks.{taking-takes, sending-sends, ready-to, sound-short}
+use Rattle.uartboot_flow.specs.Ask.{stepOf, SendsSo, ReadyTo, Asked, SentSo}
+use Rattle.uartboot_flow.proofs.Asks.{taking-takes, sending-sends, ready-to}
 use Rattle.uartboot_flow.proofs.Sounds.{Held}
 use Rattle.uartboot_flow.proofs.Laws.{same-lengths, held}
 
@@ -36,9 +36,6 @@ module _ {first : Step} {reason₀ : ℕ} {m₀ : Memories} {input old : List �
   begins h = turns.begins does due (held m₀ Any) (record { ready = h; same = same-lengths m₀ })
 
   module _ {s : Step} {last : ℕ} {m : Memories} {reply : List ℕ} {i j : ℕ} (t : At first reason₀ m₀ input old s last m reply i j) where
-    pub short : Short s
-    short = sound-short m s (t .keeps .ready)
-
     module _ (a : Ask) (asked : Asked a s) where
       module _ (x : Taking) (e : a ≡ Take x) where
         step-is : s ≡ stepOf x

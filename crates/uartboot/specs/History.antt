@@ -9,7 +9,7 @@ use Rattle.wire.specs.Line.{soh}
 use Rattle.machine.specs.History.{Event}
 use Rattle.machine.specs.Acknowledged.{tookByte}
 use Rattle.command.specs.Opcode.{isRun}
-use Rattle.command_execution.specs.Memories.{Memories}
+use Rattle.memory.specs.Memories.{Memories}
 use Rattle.uartboot_flow.specs.declared.step.Step.{Step}
 use Rattle.uartboot_flow.specs.declared.step.Step.the-variants.{Greeting, Header, Command, Answer, Refusal, Running}
 use Rattle.uartboot_flow.specs.declared.step.HeaderStep.{HeaderStep}
@@ -100,10 +100,10 @@ lastOf [] = none
 lastOf (e ∷ events) = cond (begins e) (since (e .state .mem) false) (noted (naks e) (lastOf events))
 
 -- a command NAKed before execution has left RAM and flash as they were at its 01, until the next command
-abbrev pub Kept : Last → State → Type 0
-Kept none s = Unit {0}
-Kept (since m false) s = Unit {0}
-Kept (since m true) s = (s .mem .ram ≡ m .ram) × (s .mem .flash ≡ m .flash)
+abbrev pub SameSince : Last → State → Type 0
+SameSince none s = Unit {0}
+SameSince (since m false) s = Unit {0}
+SameSince (since m true) s = (s .mem .ram ≡ m .ram) × (s .mem .flash ≡ m .flash)
 
 abbrev pub Unchanged : List (Event ℕ State) → State → Type 0
-Unchanged events s = Kept (lastOf events) s
+Unchanged events s = SameSince (lastOf events) s

@@ -6,9 +6,9 @@ use mathlib.Core.Bool.{cond, not}
 use mathlib.Core.List.{List}
 use lib.ListN.{length}
 use Rattle.wire.specs.Length.{isWorkLength, badWork, isRamLength, badRam, isFlashLength, badFlash}
-use Rattle.machine.specs.Session.{Read, sound, unsound, Session, Answer}
+use Rattle.machine.specs.Session.{Read, sound, unsound, Session, Result}
 use Rattle.machine.specs.declared.Report.{Report}
-use Rattle.command_execution.specs.Memories.{Memories}
+use Rattle.memory.specs.Memories.{Memories}
 use Rattle.uartboot_flow.specs.State.{State, state}
 use Rattle.uartboot_flow.specs.Device.{device}
 use Rattle.uartboot_record.specs.declared.Found.{Found}
@@ -38,5 +38,5 @@ uartboot =
     }
 
 -- what a call gives back, with the reply and the memories after it
-abbrev pub answer : Report → (reply : List ℕ) → Memories → Answer Memories
-answer report reply m = record { report = report; reply = reply; memories = m }
+abbrev pub result : Report → (reply : List ℕ) → Memories → Result Memories
+result report reply m = record { report = report; reply = reply; memories = m }

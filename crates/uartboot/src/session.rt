@@ -2,12 +2,12 @@
 ghost use mathlib.Core.Path.{_≡_};
 ghost use lib.ListN.{length};
 ghost use Rattle.machine.specs.Loop.{Acted};
-ghost use Rattle.machine.specs.Session.{answerOf};
-ghost use Rattle.command_execution.specs.Memories.{memories};
+ghost use Rattle.machine.specs.Session.{resultOf};
+ghost use Rattle.memory.specs.Memories.{memories};
 ghost use Rattle.uartboot_flow.specs.State.{state};
 ghost use Rattle.uartboot_flow.specs.Device.{device};
 ghost use Rattle.uartboot_flow.specs.Sound.{Ready};
-ghost use Rattle.uartboot.specs.Session.{refusalOf, uartboot, answer};
+ghost use Rattle.uartboot.specs.Session.{refusalOf, uartboot, result};
 use machine::BAD_RECORD;
 use machine::Record;
 use machine::Report;
@@ -118,7 +118,7 @@ pub fn call(
     flash: &mut [u8],
     work: &mut [u8],
 ) -> Report
-    ensures { λ r. ⌜ answer r (now (reply .exit)) (memories (now (ram .exit)) (now (flash .exit)) (now (work .exit))) ≡ answerOf uartboot session (memories (now (ram .entry)) (now (flash .entry)) (now (work .entry))) (now (input .entry)) (now (reply .entry)) ⌝ }
+    ensures { λ r. ⌜ result r (now (reply .exit)) (memories (now (ram .exit)) (now (flash .exit)) (now (work .exit))) ≡ resultOf uartboot session (memories (now (ram .entry)) (now (flash .entry)) (now (work .entry))) (now (input .entry)) (now (reply .entry)) ⌝ }
 {
     let number = refusal(ram.len(), flash.len(), work.len());
     if number != 0 {

@@ -12,7 +12,7 @@ use Rattle.machine.specs.Does.{sends}
 use Rattle.machine.specs.Steps.{Shown}
 use Rattle.machine.proofs.Bulks.{bulk-shown}
 use Rattle.command.specs.declared.opcode.Opcode.{Opcode}
-use Rattle.command_execution.specs.Memories.{memories}
+use Rattle.memory.specs.Memories.{memories}
 use Rattle.uartboot_flow.specs.declared.step.Step.{Step}
 use Rattle.uartboot_flow.specs.declared.step.Step.the-variants.{Answer}
 use Rattle.uartboot_flow.specs.declared.step.AnswerStep.the-variants.{SendAnswer}

@@ -1,15 +1,12 @@
 -- What is asked says what the step needs, and what may be relied on.
 -- Assumes nothing.
-use Prim.Native.Nat.{ℕ, _<_}
-use native.Mathlib.Omega.{arith}
+use Prim.Native.Nat.{ℕ}
 use mathlib.Core.Path.{_≡_, refl, ap}
-use lib.ListN.{length}
-use Rattle.wire.proofs.Lengths.{work-bounds}
 use Rattle.machine.specs.Machine as machine
 use Rattle.machine.specs.Does.{Does, needOf}
-use Rattle.command_execution.specs.Memories.{Memories}
+use Rattle.memory.specs.Memories.{Memories}
 use Rattle.uartboot_flow.specs.declared.step.Step.{Step}
-use Rattle.uartboot_flow.specs.declared.step.Step.the-variants.{Greeting, Header, Command, Answer, Refusal, Running}
+use Rattle.uartboot_flow.specs.declared.step.Step.the-variants.{Header}
 use Rattle.uartboot_flow.specs.declared.step.HeaderStep.{HeaderStep}
 use Rattle.uartboot_flow.specs.declared.step.HeaderStep.the-variants.{TakeSoh, TakeOpcode, TakeLow, TakeHigh}
 use Rattle.uartboot_flow.specs.declared.ask.Taking.{Taking}
@@ -19,7 +16,7 @@ use Rattle.uartboot_flow.specs.declared.ask.Sending.the-variants as send
 use Rattle.uartboot_flow.specs.State.{State}
 use Rattle.uartboot_flow.specs.Flow.{doesAt}
 use Rattle.uartboot_flow.specs.Sound.{Ready}
-use Rattle.uartboot_flow.specs.Ask.{stepOf, SendsSo, ReadyTo, Short}
+use Rattle.uartboot_flow.specs.Ask.{stepOf, SendsSo, ReadyTo}
 
 abbrev needAt : (reason : ℕ) → Memories → Step → machine.Need
 needAt reason m step = needOf (doesAt reason m step)
@@ -52,11 +49,3 @@ ready-to m (sending.Acceptance opcode size) step e h = rw e at h
 ready-to m (sending.Crc opcode size) step e h = rw e at h
 ready-to m (sending.CrcHigh opcode size) step e h = rw e at h
 ready-to m (sending.Answer opcode size place) step e h = rw e at h
-
-pub sound-short : (m : Memories) (step : Step) → Ready step m → Short step
-sound-short m (Greeting place) h = tt
-sound-short m (Header step) h = tt
-sound-short m (Command opcode size step) h = tt
-sound-short m (Answer opcode size step) h = omega (arith, h .step-sound .0 .in-work, work-bounds (length (m .work)) (h .fitting .work-length) .1)
-sound-short m Refusal h = tt
-sound-short m (Running address) h = tt

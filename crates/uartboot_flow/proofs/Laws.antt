@@ -5,7 +5,7 @@ use mathlib.Core.Path.{refl}
 use mathlib.Core.List.{[]}
 use Rattle.machine.specs.Lawful.{Lawful}
 use Rattle.machine.proofs.Doing.{does-lawful, leaves-weaken}
-use Rattle.command_execution.specs.Memories.{Memories, SameLengths}
+use Rattle.memory.specs.Memories.{Memories, SameLengths}
 use Rattle.uartboot_flow.specs.Flow.{does}
 use Rattle.uartboot_flow.specs.Due.{due}
 use Rattle.uartboot_flow.specs.Device.{device}

@@ -19,7 +19,7 @@ use Rattle.command.specs.Opcode.{unknownOpcode, badLength, opcodeOf, hasLength}
 use Rattle.command.specs.Payload.{Carried, commandOf}
 use Rattle.command_execution.specs.declared.Ending.{Ending}
 use Rattle.command_execution.specs.declared.Ending.the-variants.{Silent, Answers, Runs, Failed}
-use Rattle.command_execution.specs.Memories.{Memories, Fitting, SameLengths}
+use Rattle.memory.specs.Memories.{Memories, Fitting, SameLengths}
 use Rattle.command_execution.specs.Execution.{executed, checked}
 use Rattle.command_execution.proofs.Executions.{Fine, executed-keeps}
 use Rattle.uartboot_flow.specs.declared.step.Step.{Step}

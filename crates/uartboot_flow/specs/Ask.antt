@@ -1,14 +1,14 @@
 -- What the program asks of a step, and what that says of the flow.
 -- Assumes nothing.
-use Prim.Native.Nat.{ℕ, _<_}
+use Prim.Native.Nat.{ℕ}
 use mathlib.Core.Path.{_≡_}
 use mathlib.Core.List.{List}
 use Rattle.machine.specs.Does.{sends, runs}
 use Rattle.machine.specs.Steps.{Shown}
-use Rattle.command_execution.specs.Memories.{Memories}
+use Rattle.memory.specs.Memories.{Memories}
 use Rattle.uartboot_flow.specs.declared.step.Step.{Step}
 use Rattle.uartboot_flow.specs.declared.step.Moved.{Moved}
-use Rattle.uartboot_flow.specs.declared.step.Step.the-variants.{Greeting, Header, Command, Answer, Refusal, Running}
+use Rattle.uartboot_flow.specs.declared.step.Step.the-variants.{Header, Command, Answer}
 use Rattle.uartboot_flow.specs.declared.step.CommandStep.the-variants.{SendAck, TakePayload, SendCrcLow, SendCrcHigh, TakeGo}
 use Rattle.uartboot_flow.specs.declared.step.AnswerStep.the-variants as a
 use Rattle.uartboot_flow.specs.declared.ask.Ask.{Ask}
@@ -62,12 +62,3 @@ ReadyTo (sending.Answer opcode size place) m = Ready (Answer opcode size (a.Send
 -- what a sending sent, for each step that sends so
 pub record SentSo (x : Sending) (reason : ℕ) (m : Memories) (j : ℕ) (old : List ℕ) (moved : Moved) (m′ : Memories) (reply : List ℕ) : Type 0 where
   pub is : (step : Step) → SendsSo x step → Shown device (state step reason m) j old (moved .count) (state (moved .step) (moved .reason) m′) reply
-
--- two bytes tell an answer's length
-abbrev pub Short : Step → Type 0
-Short (Greeting place) = Unit {0}
-Short (Header step) = Unit {0}
-Short (Command opcode size step) = Unit {0}
-Short (Answer opcode size step) = size < 65536
-Short Refusal = Unit {0}
-Short (Running address) = Unit {0}

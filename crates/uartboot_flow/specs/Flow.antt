@@ -2,12 +2,13 @@
 -- command and of its execution stand with these). Each line says what a step does: it takes a byte, and the byte says where the flow
 -- goes, or it sends a byte and goes on.
 -- Assumes nothing.
-use Prim.Native.Nat.{ℕ, _+_, _*_, _/_, _%_}
+use Prim.Native.Nat.{ℕ, _+_}
 use mathlib.Core.Bool.{cond, not}
 use mathlib.Core.List.{List}
 use lib.Dec.{eqb, ltb}
 use lib.ListN.{length, take, getD, set}
 use Rattle.wire.specs.Line.{soh, ack, nak}
+use Rattle.wire.specs.Number.{paired, lowByte, highByte}
 use Rattle.crc.specs.Rule.{rule16}
 use Rattle.crc.specs.Crc.{crcOf}
 use Rattle.machine.specs.Does.{Does, takes, sends, runs, tookOf}
@@ -18,7 +19,7 @@ use Rattle.command.specs.Opcode.{unknownOpcode, badLength, opcodeOf, hasLength}
 use Rattle.command.specs.Payload.{commandOf}
 use Rattle.command_execution.specs.declared.Ending.{Ending}
 use Rattle.command_execution.specs.declared.Ending.the-variants.{Silent, Answers, Runs, Failed}
-use Rattle.command_execution.specs.Memories.{Memories, memories}
+use Rattle.memory.specs.Memories.{Memories, memories}
 use Rattle.command_execution.specs.Execution.{checked, executed}
 use Rattle.uartboot_flow.specs.declared.step.Step.{Step}
 use Rattle.uartboot_flow.specs.declared.step.Step.the-variants.{Greeting, Header, Command, Answer, Refusal, Running}
@@ -93,7 +94,7 @@ module _ (reason : ℕ) (m : Memories) where
   header TakeSoh = takes (λ byte. goes (Header (cond (eqb byte soh) TakeOpcode TakeSoh)))
   header TakeOpcode = takes (λ byte. goes (Header (TakeLow byte)))
   header (TakeLow opcode) = takes (λ byte. goes (Header (TakeHigh opcode byte)))
-  header (TakeHigh opcode low) = takes (λ byte. headed (opcodeOf opcode) (low + 256 * byte))
+  header (TakeHigh opcode low) = takes (λ byte. headed (opcodeOf opcode) (paired low byte))
 
   -- step 2: `count` of the payload's bytes are in; after the last one it is checked
   abbrev pub checkedWith : (why : ℕ) → Opcode → (size : ℕ) → State
@@ -122,8 +123,8 @@ module _ (reason : ℕ) (m : Memories) where
   command opcode size SendAck = sends ack (accepted opcode size)
   command opcode size (TakePayload place) = takes (λ byte. arrived reason (stored place byte m) opcode size (place + 1))
   command opcode size SendPayloadAck = sends ack (goes reason m (Command opcode size SendCrcLow))
-  command opcode size SendCrcLow = sends (crc16 size (m .work) % 256) (goes reason m (Command opcode size SendCrcHigh))
-  command opcode size SendCrcHigh = sends (crc16 size (m .work) / 256) (goes reason m (Command opcode size TakeGo))
+  command opcode size SendCrcLow = sends (lowByte (crc16 size (m .work))) (goes reason m (Command opcode size SendCrcHigh))
+  command opcode size SendCrcHigh = sends (highByte (crc16 size (m .work))) (goes reason m (Command opcode size TakeGo))
   command opcode size TakeGo = takes (λ byte. cond (eqb byte ack) (executes reason m opcode size) (abandons reason m))
 
   -- step 4, at its end: the host's CRC is compared with the answer's
@@ -133,12 +134,12 @@ module _ (reason : ℕ) (m : Memories) where
 
   -- step 4
   abbrev pub answer : Opcode → (size : ℕ) → AnswerStep → Does ℕ State
-  answer opcode size a.SendLengthLow = sends (size % 256) (goes reason m (Answer opcode size a.SendLengthHigh))
-  answer opcode size a.SendLengthHigh = sends (size / 256) (goes reason m (Answer opcode size a.TakeGo))
+  answer opcode size a.SendLengthLow = sends (lowByte size) (goes reason m (Answer opcode size a.SendLengthHigh))
+  answer opcode size a.SendLengthHigh = sends (highByte size) (goes reason m (Answer opcode size a.TakeGo))
   answer opcode size a.TakeGo = takes (λ byte. cond (eqb byte ack) (goes reason m (Answer opcode size (a.SendAnswer 0))) (abandons reason m))
   answer opcode size (a.SendAnswer place) = sends (getD (m .work) place 0) (goes reason m (showed opcode size (place + 1)))
   answer opcode size a.TakeCrcLow = takes (λ byte. goes reason m (Answer opcode size (a.TakeCrcHigh byte)))
-  answer opcode size (a.TakeCrcHigh low) = takes (λ byte. hosted opcode size (low + 256 * byte))
+  answer opcode size (a.TakeCrcHigh low) = takes (λ byte. hosted opcode size (paired low byte))
   answer opcode size a.SendAck = sends ack (goes reason m first)
 
   -- step 5: every 15 also leads to step 1

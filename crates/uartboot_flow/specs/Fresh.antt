@@ -2,7 +2,7 @@
 -- Assumes nothing.
 use Prim.Native.Nat.{ℕ}
 use Rattle.machine.specs.declared.Record.{Record}
-use Rattle.command_execution.specs.Memories.{Memories}
+use Rattle.memory.specs.Memories.{Memories}
 use Rattle.uartboot_flow.specs.State.{State, state}
 use Rattle.uartboot_flow.specs.Flow.{first}
 

@@ -4,7 +4,7 @@ use Prim.Native.Nat.{ℕ}
 use mathlib.Core.Path.{_≡_}
 use mathlib.Core.List.{List}
 use Rattle.machine.specs.Steps.{Shown}
-use Rattle.command_execution.specs.Memories.{Memories, memories}
+use Rattle.memory.specs.Memories.{Memories, memories}
 use Rattle.uartboot_flow.specs.declared.step.Step.{Step}
 use Rattle.uartboot_flow.specs.declared.step.Progress.{Progress}
 use Rattle.uartboot_flow.specs.State.{State, state}

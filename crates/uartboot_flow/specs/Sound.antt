@@ -6,7 +6,7 @@ use mathlib.Core.Bool.{true}
 use lib.ListN.{length}
 use Rattle.wire.specs.Unit.{isInRam}
 use Rattle.command.specs.Payload.{Carried}
-use Rattle.command_execution.specs.Memories.{Memories, Fitting}
+use Rattle.memory.specs.Memories.{Memories, Fitting}
 use Rattle.command_execution.specs.Execution.{Answering}
 use Rattle.uartboot_flow.specs.declared.step.Step.{Step}
 use Rattle.uartboot_flow.specs.declared.step.Step.the-variants.{Greeting, Header, Command, Answer, Refusal, Running}

@@ -1,7 +1,7 @@
 -- Where a uartboot session stands: the flow's step, the last reason and the memories.
 -- Assumes nothing.
 use Prim.Native.Nat.{ℕ}
-use Rattle.command_execution.specs.Memories.{Memories}
+use Rattle.memory.specs.Memories.{Memories}
 use Rattle.uartboot_flow.specs.declared.step.Step.{Step}
 
 pub record State : Type 0 where

@@ -1,6 +1,6 @@
 // What a step asks: bytes, or room for what it sends, with the step that follows where no memory says which.
 ghost use mathlib.Core.Path.{_≡_};
-ghost use Rattle.uartboot_flow.specs.Ask.{Short, Asked};
+ghost use Rattle.uartboot_flow.specs.Ask.{Asked};
 use crate::kind::Uartboot;
 use crate::kind::greeting_byte;
 use crate::step::AnswerStep;
@@ -10,6 +10,8 @@ use crate::step::Step;
 use command::opcode::Opcode;
 use wire::line::ACK;
 use wire::line::NAK;
+use wire::number::high_byte;
+use wire::number::low_byte;
 
 // A byte of a header; bytes of a payload, with its opcode and length and the next place; the byte on which the command is executed or
 // not; the byte after an answer's length; the low byte of the host's CRC, and the high one with the low one.
@@ -73,14 +75,13 @@ fn say(byte: u8, opcode: Opcode, size: u32, next: AnswerStep) -> Ask
 }
 
 fn ask_answer(opcode: Opcode, size: u32, step: AnswerStep) -> Ask
-    requires { ⌜ Short (Step.Answer opcode size step) ⌝ }
     ensures { λ r. ⌜ Asked r (Step.Answer opcode size step) ⌝ }
 {
     match step {
         AnswerStep::SendLengthLow => {
-            say((size % 256) as u8, opcode, size, AnswerStep::SendLengthHigh)
+            say(low_byte(size), opcode, size, AnswerStep::SendLengthHigh)
         }
-        AnswerStep::SendLengthHigh => { say((size / 256) as u8, opcode, size, AnswerStep::TakeGo) }
+        AnswerStep::SendLengthHigh => { say(high_byte(size), opcode, size, AnswerStep::TakeGo) }
         AnswerStep::TakeGo => Ask::Take(Taking::AnswerGo(opcode, size)),
         AnswerStep::SendAnswer(place) => Ask::Send(Sending::Answer(opcode, size, place)),
         AnswerStep::TakeCrcLow => Ask::Take(Taking::HostCrcLow(opcode, size)),
@@ -90,7 +91,6 @@ fn ask_answer(opcode: Opcode, size: u32, step: AnswerStep) -> Ask
 }
 
 pub fn ask_of(step: Step) -> Ask
-    requires { ⌜ Short step ⌝ }
     ensures { λ r. ⌜ Asked r step ⌝ }
 {
     match step {

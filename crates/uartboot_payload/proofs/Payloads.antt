@@ -10,7 +10,7 @@ use Rattle.machine.specs.Does.{takes}
 use Rattle.machine.specs.Steps.{Taken}
 use Rattle.machine.proofs.Bulks.{bulk-taken}
 use Rattle.command.specs.declared.opcode.Opcode.{Opcode}
-use Rattle.command_execution.specs.Memories.{memories}
+use Rattle.memory.specs.Memories.{memories}
 use Rattle.uartboot_flow.specs.declared.step.Step.the-variants.{Command}
 use Rattle.uartboot_flow.specs.declared.step.CommandStep.the-variants.{TakePayload}
 use Rattle.uartboot_flow.specs.State.{State, state}

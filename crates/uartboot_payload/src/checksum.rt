@@ -8,6 +8,8 @@ use uartboot_flow::checksum::crc_of;
 use uartboot_flow::step::CommandStep;
 use uartboot_flow::step::Moved;
 use uartboot_flow::step::Step;
+use wire::number::high_byte;
+use wire::number::low_byte;
 
 // Sends the low byte of the payload's CRC as reply byte j, and its high byte behind that where there is room.
 pub fn send_crc(
@@ -22,7 +24,7 @@ pub fn send_crc(
     ensures { λ r. ⌜ ShownFrom (now (work .entry)) (state (Step.Command opcode size CommandStep.SendCrcLow) reason) (state (r .step) (r .reason)) j (now (reply .entry)) (r .count) (now (reply .exit)) ⌝ }
 {
     let crc = crc_of(size, work);
-    reply[j] = (crc % 256) as u8;
+    reply[j] = low_byte(crc as u32);
     let next = j + 1;
     if next == reply.len() {
         return Moved {
@@ -31,7 +33,7 @@ pub fn send_crc(
             count: 1,
         };
     }
-    reply[next] = (crc / 256) as u8;
+    reply[next] = high_byte(crc as u32);
     Moved {
         step: Step::Command(opcode, size, CommandStep::TakeGo),
         reason: reason,
@@ -51,7 +53,7 @@ pub fn send_crc_high(
     requires { ⌜ (size ≤ length (now work)) × (j < length (now reply)) ⌝ }
     ensures { λ r. ⌜ ShownFrom (now (work .entry)) (state (Step.Command opcode size CommandStep.SendCrcHigh) reason) (state (r .step) (r .reason)) j (now (reply .entry)) (r .count) (now (reply .exit)) ⌝ }
 {
-    reply[j] = (crc_of(size, work) / 256) as u8;
+    reply[j] = high_byte(crc_of(size, work) as u32);
     Moved {
         step: Step::Command(opcode, size, CommandStep::TakeGo),
         reason: reason,

@@ -2,7 +2,7 @@
 ghost use mathlib.Core.Path.{_≡_};
 ghost use lib.ListN.{length};
 ghost use Rattle.command.specs.Payload.{Carried};
-ghost use Rattle.command_execution.specs.Memories.{memories, Fitting};
+ghost use Rattle.memory.specs.Memories.{memories, Fitting};
 ghost use Rattle.uartboot_flow.specs.Flow.{ends, executes, accepted, took};
 ghost use Rattle.uartboot_flow.specs.State.{state};
 ghost use Rattle.uartboot_flow.specs.Gives.{stateOf, EndsIn};

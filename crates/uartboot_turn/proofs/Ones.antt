@@ -7,7 +7,7 @@ use lib.ListN.{length, getD, set}
 use Rattle.machine.specs.Does.{sends}
 use Rattle.machine.specs.Steps.{Taken, Shown}
 use Rattle.machine.proofs.Bulks.{take-one, send-one}
-use Rattle.command_execution.specs.Memories.{Memories}
+use Rattle.memory.specs.Memories.{Memories}
 use Rattle.uartboot_flow.specs.declared.step.Step.{Step}
 use Rattle.uartboot_flow.specs.declared.step.Progress.{Progress}
 use Rattle.uartboot_flow.specs.declared.step.Moved.{Moved}

@@ -13,10 +13,21 @@ abbrev pub numberOf : List ℕ → ℕ
 numberOf [] = 0
 numberOf (b ∷ bs) = b + 256 * numberOf bs
 
+-- the number that a low part and a high byte make
+abbrev pub paired : (low high : ℕ) → ℕ
+paired low high = low + 256 * high
+
+-- a number's lowest byte, and the one above it
+abbrev pub lowByte : (n : ℕ) → ℕ
+lowByte n = n % 256
+
+abbrev pub highByte : (n : ℕ) → ℕ
+highByte n = lowByte (n / 256)
+
 -- the bytes that make a number, the lowest first
 abbrev pub bytesOf : (width n : ℕ) → List ℕ
 bytesOf zero n = []
-bytesOf (suc width) n = n % 256 ∷ bytesOf width (n / 256)
+bytesOf (suc width) n = lowByte n ∷ bytesOf width (n / 256)
 
 -- the number in the `width` bytes from a place on
 unfoldable pub numberAt : (width : ℕ) (bytes : List ℕ) (place : ℕ) → ℕ

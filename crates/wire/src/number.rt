@@ -1,9 +1,9 @@
 // Little-endian numbers of 2 and 4 bytes.
 ghost use mathlib.Core.Path.{_≡_};
 ghost use mathlib.Core.List.{[], _∷_};
-ghost use Prim.Native.Nat.{_+_, _*_, _≤_};
+ghost use Prim.Native.Nat.{_+_, _≤_};
 ghost use lib.ListN.{length};
-ghost use Rattle.wire.specs.Number.{numberOf, numberAt, readAt};
+ghost use Rattle.wire.specs.Number.{numberOf, numberAt, readAt, paired, lowByte, highByte};
 use crate::range::Place;
 use crate::range::place_in;
 
@@ -71,7 +71,21 @@ pub fn read32(bytes: &[u8], place: usize) -> Reading
 
 // The number that a low part, any number where it comes from a record, and a high byte make.
 pub fn pair(low: u32, high: u8) -> usize
-    ensures { λ r. ⌜ r ≡ low + 256 * high ⌝ }
+    ensures { λ r. ⌜ r ≡ paired low high ⌝ }
 {
     (low as usize) + 256 * (high as usize)
+}
+
+// A number's lowest byte.
+pub fn low_byte(number: u32) -> u8
+    ensures { λ r. ⌜ r ≡ lowByte number ⌝ }
+{
+    (number % 256) as u8
+}
+
+// The byte above it.
+pub fn high_byte(number: u32) -> u8
+    ensures { λ r. ⌜ r ≡ highByte number ⌝ }
+{
+    (number / 256 % 256) as u8
 }

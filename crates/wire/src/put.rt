@@ -4,14 +4,16 @@ ghost use Prim.Native.Nat.{_+_, _≤_};
 ghost use lib.ListN.{length};
 ghost use lib.Seq.{sets};
 ghost use Rattle.wire.specs.Number.{bytesOf};
+use crate::number::high_byte;
+use crate::number::low_byte;
 
 // Writes the 2 bytes of a number from a place on, the low one first.
 pub fn put16(out: &mut [u8], place: usize, number: u16)
     requires { ⌜ place + 2 ≤ length (now out) ⌝ }
     ensures { λ _. ⌜ now (out .exit) ≡ sets (now (out .entry)) place (bytesOf 2 number) ⌝ }
 {
-    out[place] = (number % 256) as u8;
-    out[place + 1] = (number / 256) as u8;
+    out[place] = low_byte(number as u32);
+    out[place + 1] = high_byte(number as u32);
 }
 
 // Writes the 4 bytes of a number: its low half first.

@@ -1,7 +1,7 @@
--- `capi_rom::und_rom_call`: what C gets is the session's answer.
+-- `capi_rom::und_rom_call`: what C gets is the session's result.
 -- Assumes nothing.
 use Rattle.rom.specs.Session.{rom}
-use Rattle.called.proofs.Boundary.{given-back}
+use Rattle.called.proofs.Boundary.{handed-back}
 use borrow.Author.Needs.{needs}
 use Rattle.capi_rom.proofs.und_rom_call.Statement.{statement}
 use Rattle.capi_rom.proofs.und_rom_call.Tie as tie
@@ -26,7 +26,7 @@ returns c =
     let called = c .before .before .before .before .before .before in
     let made = called .before .before .before in
     let a = made .before .before .before .before .before .args in
-    given-back rom (a .words .now) (a .ram .now) (a .input .now) (a .reply .now)
+    handed-back rom (a .words .now) (a .ram .now) (a .input .now) (a .reply .now)
     _ (made .record-of .ensures) _ _ _ (called .call .ensures) _ _ (c .hand-back .ensures)
 
 pub und-rom-call-spec : {M : Type 1} → statement M

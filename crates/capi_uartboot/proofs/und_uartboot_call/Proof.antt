@@ -1,8 +1,8 @@
--- `capi_uartboot::und_uartboot_call`: what C gets is the session's answer.
+-- `capi_uartboot::und_uartboot_call`: what C gets is the session's result.
 -- Assumes nothing.
-use Rattle.command_execution.specs.Memories.{memories}
+use Rattle.memory.specs.Memories.{memories}
 use Rattle.uartboot.specs.Session.{uartboot}
-use Rattle.called.proofs.Boundary.{given-back}
+use Rattle.called.proofs.Boundary.{handed-back}
 use borrow.Author.Needs.{needs}
 use Rattle.capi_uartboot.proofs.und_uartboot_call.Statement.{statement}
 use Rattle.capi_uartboot.proofs.und_uartboot_call.Tie as tie
@@ -33,7 +33,7 @@ returns c =
     let called = c .before .before .before .before .before .before .before .before .before .before in
     let made = called .before .before .before .before .before in
     let a = made .before .before .before .before .before .before .before .args in
-    given-back uartboot (a .words .now) (memories (a .ram .now) (a .flash .now) (a .work .now)) (a .input .now) (a .reply .now)
+    handed-back uartboot (a .words .now) (memories (a .ram .now) (a .flash .now) (a .work .now)) (a .input .now) (a .reply .now)
     _ (made .record-of .ensures) _ _ _ (called .call .ensures) _ _ (c .hand-back .ensures)
 
 pub und-uartboot-call-spec : {M : Type 1} → statement M

@@ -25,17 +25,17 @@ part-burn-end c = search needs
 burn-requires : tie.Need-burn-requires
 burn-requires c κs = search needs
 
-sub-stands : tie.Need-sub-stands
-sub-stands c = search needs
+sub-is-front : tie.Need-sub-is-front
+sub-is-front c = search needs
 
-part-stands-start : tie.Need-part-stands-start
-part-stands-start c = search needs
+part-is-front-start : tie.Need-part-is-front-start
+part-is-front-start c = search needs
 
-part-stands-end : tie.Need-part-stands-end
-part-stands-end c = search needs
+part-is-front-end : tie.Need-part-is-front-end
+part-is-front-end c = search needs
 
-stands-requires : tie.Need-stands-requires
-stands-requires c κs = search needs
+is-front-requires : tie.Need-is-front-requires
+is-front-requires c κs = search needs
 
 same-length : tie.Need-same-length
 same-length c = search needs
@@ -52,7 +52,7 @@ back c =
 returns : tie.Need-returns
 returns c =
     let k = c .before .before .before .before .before .before .before in
-    let same = rw (to-end _ (k .before .before .before .before .args .offset)) at (sym (c .before .stands .ensures) ∙ c .if2 .taken) in
+    let same = rw (to-end _ (k .before .before .before .before .args .offset)) at (sym (c .before .is-front .ensures) ∙ c .if2 .taken) in
     (simp (eq-eqb _ _ (c .before .before .before .before .if1 .taken), same), back k)
 
 same-length-2 : tie.Need-same-length-2
@@ -61,7 +61,7 @@ same-length-2 c = search needs
 returns-2 : tie.Need-returns-2
 returns-2 c =
     let k = c .before .before .before .before .before .before .before in
-    let same = rw (to-end _ (k .before .before .before .before .args .offset)) at (sym (c .before .stands .ensures) ∙ c .if2 .left) in
+    let same = rw (to-end _ (k .before .before .before .before .args .offset)) at (sym (c .before .is-front .ensures) ∙ c .if2 .left) in
     (simp (eq-eqb _ _ (c .before .before .before .before .if1 .taken), same), back k)
 
 same-length-3 : tie.Need-same-length-3
@@ -78,10 +78,10 @@ direct-write-spec =
     part-burn-start
     part-burn-end
     burn-requires
-    sub-stands
-    part-stands-start
-    part-stands-end
-    stands-requires
+    sub-is-front
+    part-is-front-start
+    part-is-front-end
+    is-front-requires
     same-length
     returns
     same-length-2

@@ -3,7 +3,7 @@
 use mathlib.Core.Path.{sym, _∙_}
 use native.Mathlib.Nat.{le-trans}
 use borrow.Author.Needs.{needs}
-use Rattle.command_execution.specs.Memories.{memories}
+use Rattle.memory.specs.Memories.{memories}
 use Rattle.command_execution.proofs.DataEnds.{data-end-in}
 use Rattle.command_execution.proofs.Executions.{performs, refuses}
 use Rattle.command_execution.proofs.execute.Statement.{statement}

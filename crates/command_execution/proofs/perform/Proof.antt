@@ -11,7 +11,7 @@ use Rattle.memory.proofs.Stores.{changed-part, part-length}
 use Rattle.command.specs.declared.opcode.Opcode.the-variants.{Write}
 use Rattle.command.specs.Opcode.{dataPlace}
 use Rattle.command_execution.specs.declared.Ending.the-variants.{Silent}
-use Rattle.command_execution.specs.Memories.{memories}
+use Rattle.memory.specs.Memories.{memories}
 use Rattle.command_execution.specs.Execution.{ended, placeOf}
 use Rattle.command_execution.proofs.Ready.{ready}
 use Rattle.command_execution.proofs.perform.Statement.{statement}

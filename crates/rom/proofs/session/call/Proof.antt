@@ -1,4 +1,4 @@
--- `rom::session::call`: the refusals in order, and the loop's answer written out.
+-- `rom::session::call`: the refusals in order, and what the loop gives written out.
 -- Assumes nothing.
 use mathlib.Core.Path.{refl, sym, _∙_}
 use native.Mathlib.Omega.{arith}

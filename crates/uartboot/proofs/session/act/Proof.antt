@@ -1,7 +1,7 @@
 -- `uartboot::session::act`: each turn of the loop is takes or sends of the machine, and where it returns the machine has stopped.
 -- Assumes nothing.
-use Rattle.command_execution.specs.Memories.{memories}
-use Rattle.uartboot.proofs.Turns.{At, begins, short, ready-to-take, taken, hungry, ready-to-send, shown, choked, halts}
+use Rattle.memory.specs.Memories.{memories}
+use Rattle.uartboot.proofs.Turns.{At, begins, ready-to-take, taken, hungry, ready-to-send, shown, choked, halts}
 use Rattle.uartboot_flow.proofs.Laws.{held}
 use Rattle.uartboot_flow.specs.Due.{due}
 use Rattle.uartboot_flow.specs.Flow.{does}
@@ -23,7 +23,7 @@ loop-holds : tie.Need-loop-holds Inv-loop μ-loop
 loop-holds c = begins (c .before .before .before .before .before .pre)
 
 ask-of-requires : tie.Need-ask-of-requires Inv-loop μ-loop
-ask-of-requires c κs = short (c .loop .inv)
+ask-of-requires c κs = search needs
 
 enum-known-taking : tie.Need-enum-known-taking Inv-loop μ-loop
 enum-known-taking c = search needs

@@ -1,4 +1,4 @@
--- `uartboot::session::call`: the refusals in order, and the loop's answer written out.
+-- `uartboot::session::call`: the refusals in order, and what the loop gives written out.
 -- Assumes nothing.
 use mathlib.Core.Path.{refl, sym, _∙_}
 use Rattle.uartboot_record.proofs.Records.{decoded-sound}

@@ -3,7 +3,7 @@
 use lib.Seq.{length-take-le}
 use native.Mathlib.Omega.{arith}
 use mathlib.Core.Path.{sym, ap}
-use Rattle.command_execution.specs.Memories.{memories}
+use Rattle.memory.specs.Memories.{memories}
 use Rattle.uartboot_flow.specs.State.{state}
 use Rattle.uartboot_answer.proofs.Answers.{shown-few, answer-shown}
 use borrow.Author.Needs.{needs}

@@ -8,8 +8,8 @@ use Rattle.uartboot_flow.proofs.ask.ask_answer.Tie as tie
 enum-told : tie.Need-enum-told
 enum-told c = search needs
 
-cast-say : tie.Need-cast-say
-cast-say c = search needs
+low-byte-requires : tie.Need-low-byte-requires
+low-byte-requires c κs = search needs
 
 say-requires : tie.Need-say-requires
 say-requires c κs = search needs
@@ -17,8 +17,8 @@ say-requires c κs = search needs
 enum-told-2 : tie.Need-enum-told-2
 enum-told-2 c = search needs
 
-cast-say-2 : tie.Need-cast-say-2
-cast-say-2 c = search needs
+high-byte-requires : tie.Need-high-byte-requires
+high-byte-requires c κs = search needs
 
 say-requires-2 : tie.Need-say-requires-2
 say-requires-2 c κs = search needs
@@ -39,10 +39,10 @@ enum-told-5 : tie.Need-enum-told-5
 enum-told-5 c = search needs
 
 returns : tie.Need-returns
-returns c = rw (c .say .ensures, c .before .enum-told .given .1) (record { is = λ reason m. refl })
+returns c = rw (c .say .ensures, c .before .low-byte .ensures, c .before .before .enum-told .given .1) (record { is = λ reason m. refl })
 
 returns-2 : tie.Need-returns-2
-returns-2 c = rw (c .say2 .ensures, c .before .enum-told2 .given .1) (record { is = λ reason m. refl })
+returns-2 c = rw (c .say2 .ensures, c .before .high-byte .ensures, c .before .before .enum-told2 .given .1) (record { is = λ reason m. refl })
 
 returns-3 : tie.Need-returns-3
 returns-3 c = search needs
@@ -64,10 +64,10 @@ ask-answer-spec =
     tie.close
     (tie.spec
     enum-told
-    cast-say
+    low-byte-requires
     say-requires
     enum-told-2
-    cast-say-2
+    high-byte-requires
     say-requires-2
     enum-told-3
     enum-known-step

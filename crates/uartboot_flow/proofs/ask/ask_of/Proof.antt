@@ -24,7 +24,7 @@ enum-known-step-4 : tie.Need-enum-known-step-4
 enum-known-step-4 c = search needs
 
 ask-answer-requires : tie.Need-ask-answer-requires
-ask-answer-requires c κs = rw (c .before .step4 .given .1) at (c .before .before .before .pre)
+ask-answer-requires c κs = search needs
 
 enum-told : tie.Need-enum-told
 enum-told c = search needs

@@ -1,9 +1,11 @@
 -- `uartboot_payload::checksum::send_crc`: one store is one send, two stores are two.
 -- Assumes nothing.
-use Prim.Native.Nat.{_+_, _<_}
-use native.Mathlib.Omega.{arith}
-use lib.ListN.{length, length-set}
 use Rattle.uartboot_payload.proofs.Checksums.{low-shown, crc-shown}
+use Rattle.wire.specs.Number.{lowByte, highByte}
+use lib.ListN.{length, length-set}
+use mathlib.Core.Path.{_∙_, ap}
+use native.Mathlib.Omega.{arith}
+use Prim.Native.Nat.{_+_, _<_}
 use borrow.Author.Needs.{needs}
 use Rattle.uartboot_payload.proofs.checksum.send_crc.Statement.{statement}
 use Rattle.uartboot_payload.proofs.checksum.send_crc.Tie as tie
@@ -11,8 +13,11 @@ use Rattle.uartboot_payload.proofs.checksum.send_crc.Tie as tie
 crc-of-requires : tie.Need-crc-of-requires
 crc-of-requires c κs = search needs
 
-cast-reply : tie.Need-cast-reply
-cast-reply c = search needs
+cast-low-byte : tie.Need-cast-low-byte
+cast-low-byte c = search needs
+
+low-byte-requires : tie.Need-low-byte-requires
+low-byte-requires c κs = search needs
 
 slice-write-reply : tie.Need-slice-write-reply
 slice-write-reply c = search needs
@@ -25,34 +30,42 @@ same-length c = search needs
 
 returns : tie.Need-returns
 returns c =
-    record { is = λ ram flash. low-shown _ _ _ _ _ (c .before .crc-of .ensures) _ _ (c .before .before .before .before .pre .1) }
+    record {
+      is = λ ram flash. low-shown _ _ _ _ _ _ _ (c .before .low-byte .ensures ∙ ap lowByte (c .before .before .crc-of .ensures)) (c .before .before .before .before .before .pre .1);
+    }
 
-cast-reply-2 : tie.Need-cast-reply-2
-cast-reply-2 c = search needs
+cast-high-byte : tie.Need-cast-high-byte
+cast-high-byte c = search needs
+
+high-byte-requires : tie.Need-high-byte-requires
+high-byte-requires c κs = search needs
 
 slice-write-reply-2 : tie.Need-slice-write-reply-2
-slice-write-reply-2 c = simp length-set (omega (arith, simp length-set at (c .if1 .left)))
+slice-write-reply-2 c = simp length-set (omega (arith, simp length-set at (c .before .if1 .left)))
 
 same-length-2 : tie.Need-same-length-2
 same-length-2 c = search needs
 
 returns-2 : tie.Need-returns-2
 returns-2 c =
-    let base = c .before .before .before .before in
-    let room : base .args .j + 1 < length (base .args .reply .now) = omega (arith, simp length-set at (c .if1 .left)) in
-    record { is = λ ram flash. crc-shown _ _ _ _ _ (c .before .crc-of .ensures) _ _ room }
+    let base = c .before .before .before .before .before .before in
+    let crc = c .before .before .before .crc-of .ensures in
+    let room : base .args .j + 1 < length (base .args .reply .now) = omega (arith, simp length-set at (c .before .if1 .left)) in
+    record { is = λ ram flash. crc-shown _ _ _ _ _ _ _ _ (c .before .before .low-byte .ensures ∙ ap lowByte crc) (c .high-byte .ensures ∙ ap highByte crc) room }
 
 pub send-crc-spec : {M : Type 1} → statement M
 send-crc-spec =
     tie.close
     (tie.spec
     crc-of-requires
-    cast-reply
+    cast-low-byte
+    low-byte-requires
     slice-write-reply
     add-next
     same-length
     returns
-    cast-reply-2
+    cast-high-byte
+    high-byte-requires
     slice-write-reply-2
     same-length-2
     returns-2)

@@ -1,6 +1,8 @@
 -- `uartboot_payload::checksum::send_crc_high`: one store is one send.
 -- Assumes nothing.
 use Rattle.uartboot_payload.proofs.Checksums.{high-shown}
+use Rattle.wire.specs.Number.{highByte}
+use mathlib.Core.Path.{_∙_, ap}
 use borrow.Author.Needs.{needs}
 use Rattle.uartboot_payload.proofs.checksum.send_crc_high.Statement.{statement}
 use Rattle.uartboot_payload.proofs.checksum.send_crc_high.Tie as tie
@@ -8,8 +10,11 @@ use Rattle.uartboot_payload.proofs.checksum.send_crc_high.Tie as tie
 crc-of-requires : tie.Need-crc-of-requires
 crc-of-requires c κs = search needs
 
-cast-reply : tie.Need-cast-reply
-cast-reply c = search needs
+cast-high-byte : tie.Need-cast-high-byte
+cast-high-byte c = search needs
+
+high-byte-requires : tie.Need-high-byte-requires
+high-byte-requires c κs = search needs
 
 slice-write-reply : tie.Need-slice-write-reply
 slice-write-reply c = search needs
@@ -18,8 +23,15 @@ same-length : tie.Need-same-length
 same-length c = search needs
 
 returns : tie.Need-returns
-returns c = record { is = λ ram flash. high-shown _ _ _ _ _ (c .crc-of .ensures) _ _ (c .before .before .before .pre .1) }
+returns c = record { is = λ ram flash. high-shown _ _ _ _ _ _ _ (c .high-byte .ensures ∙ ap highByte (c .before .crc-of .ensures)) (c .before .before .before .before .pre .1) }
 
 pub send-crc-high-spec : {M : Type 1} → statement M
 send-crc-high-spec =
-    tie.close (tie.spec crc-of-requires cast-reply slice-write-reply same-length returns)
+    tie.close
+    (tie.spec
+    crc-of-requires
+    cast-high-byte
+    high-byte-requires
+    slice-write-reply
+    same-length
+    returns)

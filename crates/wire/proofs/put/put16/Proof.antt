@@ -1,22 +1,20 @@
 -- `wire::put::put16`: one store after the other.
 -- Assumes nothing.
-use Prim.Native.Nat.{_/_, _%_}
-use mathlib.Core.Path.{_≡_}
-use native.Mathlib.Numerals.{add-one}
-use native.Mathlib.Omega.{arith}
 use lib.ListN.{length-set}
+use native.Mathlib.Omega.{arith}
+use native.Mathlib.Numerals.{add-one}
 use borrow.Author.Needs.{needs}
 use Rattle.wire.proofs.put.put16.Statement.{statement}
 use Rattle.wire.proofs.put.put16.Tie as tie
 
-cast-out : tie.Need-cast-out
-cast-out c = search needs
+low-byte-requires : tie.Need-low-byte-requires
+low-byte-requires c κs = search needs
 
 slice-write-out : tie.Need-slice-write-out
 slice-write-out c = search needs
 
-cast-out-2 : tie.Need-cast-out-2
-cast-out-2 c = search needs
+high-byte-requires : tie.Need-high-byte-requires
+high-byte-requires c κs = search needs
 
 add-out : tie.Need-add-out
 add-out c = search needs
@@ -28,12 +26,16 @@ same-length : tie.Need-same-length
 same-length c = search needs
 
 returns : tie.Need-returns
-returns c =
-    let n = c .args .number in
-    let high : n / 256 ≡ n / 256 % 256 = omega arith in
-    rw (add-one, ← high)
+returns c = rw (add-one, c .before .low-byte .ensures, c .high-byte .ensures)
 
 pub put16-spec : {M : Type 1} → statement M
 put16-spec =
     tie.close
-    (tie.spec cast-out slice-write-out cast-out-2 add-out slice-write-out-2 same-length returns)
+    (tie.spec
+    low-byte-requires
+    slice-write-out
+    high-byte-requires
+    add-out
+    slice-write-out-2
+    same-length
+    returns)

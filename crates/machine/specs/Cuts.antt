@@ -23,7 +23,7 @@ module _ {A S : Type 0} (m : Machine A S) where
     running : standing m s left ≡ 3 → Stopped s left
 
   -- o is what a list of calls gives from `start` over a stream, u what the uncut definition gives
-  pub record Holds (start : S) (stream : List A) (o u : Outcome S) : Type 0 where
+  pub record Agrees (start : S) (stream : List A) (o u : Outcome S) : Type 0 where
     -- the definition stops for want of input, or since code runs
     pub definition-stops : Stopped (u .final) (drop (u .taken) stream)
     -- always: the replies are a beginning of the definition's, and no more is taken
@@ -40,7 +40,7 @@ module _ {A S : Type 0} (m : Machine A S) where
     pub history : Came m start stream o × Came m start stream u
 
   -- for every list of calls over every stream of good symbols, from every sound state
-  abbrev pub Claim : (Good : A → Type 0) (Sound : S → Type 0) → Type 0
-  Claim Good Sound =
+  abbrev pub CutsNeverMatter : (Good : A → Type 0) (Sound : S → Type 0) → Type 0
+  CutsNeverMatter Good Sound =
       (start : S) → Sound start → (stream : List A) → Every Good stream → (cs : List Call) →
-      Holds start stream (calls m start stream cs) (uncut m start stream)
+      Agrees start stream (calls m start stream cs) (uncut m start stream)

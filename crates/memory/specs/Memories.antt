@@ -1,4 +1,4 @@
--- The memories of a uartboot session (01, "Memories and the record").
+-- The three memories of a uartboot session, and the lengths that they may have (01, "Memories and the record").
 -- Assumes nothing.
 use Prim.Native.Nat.{ℕ}
 use mathlib.Core.Path.{_≡_}
