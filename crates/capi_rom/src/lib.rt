@@ -2,13 +2,14 @@
 ghost use mathlib.Core.Path.{_≡_};
 ghost use Rattle.machine.specs.Session.{resultOf};
 ghost use Rattle.machine.specs.Words.{recordOf, wordsOf};
-ghost use Rattle.rom.specs.Session.{freshRecord, rom};
+ghost use Rattle.rom_flow.specs.Fresh.{freshRecord};
+ghost use Rattle.rom.specs.Session.{rom};
 ghost use Rattle.called.specs.Called.{handed, handedOf};
 use called::Called;
 use called::hand_back;
 use machine::words::put;
 use machine::words::record_of;
-use rom::session::Receiver;
+use rom_flow::kind::Receiver;
 
 // A fresh record of a receiver: kind 0 is P, 1 is E; `und_rom_call` refuses any other.
 #[no_mangle]

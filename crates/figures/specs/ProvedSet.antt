@@ -16,7 +16,8 @@ use Rattle.machine.specs.Uncut.{uncut}
 use Rattle.rom_flow.specs.declared.kind.Kind.the-variants.{P, E}
 use Rattle.rom_flow.specs.declared.step.Step.the-variants.{TakeCode, Running}
 use Rattle.wire.specs.Unit.{firstAddress}
-use Rattle.rom_flow.specs.Receiver.{fresh, receiver}
+use Rattle.rom_flow.specs.Receiver.{receiver}
+use Rattle.rom_flow.specs.Fresh.{fresh}
 use Rattle.rom_record.specs.Record.{written}
 use Rattle.memory.specs.Flash.{burnt, blank}
 use Rattle.command.specs.declared.opcode.Opcode.the-variants.{Erase}

@@ -1,7 +1,7 @@
 // Exchanges with a receiver and with uartboot, each in one call from a fresh record.
 use crc::crc32;
 use machine::Report;
-use rom::session::Receiver;
+use rom_flow::kind::Receiver;
 use show::bytes;
 use show::decimal;
 use show::hex;

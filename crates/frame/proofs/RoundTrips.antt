@@ -27,7 +27,8 @@ use Rattle.wire.specs.Line.{stx, soh, ack}
 use Rattle.wire.specs.Unit.{firstAddress}
 use Rattle.rom_flow.specs.State.{State, state}
 use Rattle.rom_flow.specs.Flow.{xorOf, codeStep, does}
-use Rattle.rom_flow.specs.Receiver.{fresh, receiver}
+use Rattle.rom_flow.specs.Receiver.{receiver}
+use Rattle.rom_flow.specs.Fresh.{fresh}
 use Rattle.rom_flow.proofs.Laws.{lawful-any}
 use Rattle.frame.specs.Frame.{longest, lengthField, headerOf, frameOf, emptyCode, longCode, shortOutput, written, framedOf}
 use Rattle.frame.specs.RoundTrip.{RoundTrip}

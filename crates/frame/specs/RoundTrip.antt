@@ -11,7 +11,8 @@ use Rattle.rom_flow.specs.declared.step.Step.the-variants.{Running}
 use Rattle.wire.specs.Line.{stx, ack}
 use Rattle.wire.specs.Unit.{firstAddress}
 use Rattle.rom_flow.specs.Flow.{xorOf}
-use Rattle.rom_flow.specs.Receiver.{fresh, receiver}
+use Rattle.rom_flow.specs.Receiver.{receiver}
+use Rattle.rom_flow.specs.Fresh.{fresh}
 use Rattle.frame.specs.Frame.{framedOf}
 
 -- a frame that is written, fed uncut to a fresh receiver of its kind: the code lies at the RAM's front, the rest of the RAM is as it

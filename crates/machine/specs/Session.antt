@@ -12,6 +12,10 @@ use Rattle.machine.specs.Call.{standing, call}
 use Rattle.machine.specs.declared.Record.{Record}
 use Rattle.machine.specs.declared.Report.{Report}
 
+-- the record of a session at its flow's first step, with the number of its kind and no reason yet
+abbrev pub startRecord : (kind : ℕ) → Record
+startRecord kind = record { kind = kind; phase = 0; opcode = 0; length = 0; place = 0; held = 0; reason = 0; spare = 0 }
+
 -- what a record says: a state, or it is unsound
 pub data Read (S : Type 0) : Type 0 where
   sound : S → Read S

@@ -1,7 +1,7 @@
 // Sessions as deterministic machines: what a caller keeps of one between calls, and what a call reports.
 ghost use mathlib.Core.Path.{_≡_};
 ghost use Prim.Native.Nat.{_+_, _≤_};
-ghost use Rattle.machine.specs.Session.{refusedReport};
+ghost use Rattle.machine.specs.Session.{startRecord, refusedReport};
 
 pub mod words;
 
@@ -39,6 +39,22 @@ pub fn refused(number: u32, session: Record) -> Report
         taken: 0,
         sent: 0,
         session: session,
+    }
+}
+
+// The record of a session at its flow's first step, by the number of its kind.
+pub fn start(kind: u32) -> Record
+    ensures { λ r. ⌜ r ≡ startRecord kind ⌝ }
+{
+    Record {
+        kind: kind,
+        phase: 0,
+        opcode: 0,
+        length: 0,
+        place: 0,
+        held: 0,
+        reason: 0,
+        spare: 0,
     }
 }
 

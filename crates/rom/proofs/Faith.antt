@@ -26,7 +26,8 @@ use Rattle.rom_flow.specs.declared.step.Step.{Step}
 use Rattle.rom_flow.specs.declared.step.Step.the-variants.{SendStx, Header, SendAck, TakeCode, SendXor, TakeAck, SendNak, Running}
 use Rattle.rom_flow.specs.State.{State, state}
 use Rattle.rom_flow.specs.Flow.{notAcked, firstExtended, zeroLength, judged, headed, goes, header, doesAt, does}
-use Rattle.rom_flow.specs.Receiver.{fresh, due, receiver}
+use Rattle.rom_flow.specs.Receiver.{due, receiver}
+use Rattle.rom_flow.specs.Fresh.{fresh}
 use Rattle.rom_flow.specs.Sound.{Sound}
 use Rattle.rom_flow.proofs.Laws.{lawful}
 use Rattle.rom_record.specs.Record.{written}

@@ -16,13 +16,13 @@ use Rattle.machine.proofs.Refusals.{sound-same, never-sound}
 use Rattle.rom_flow.specs.declared.kind.Kind.{Kind}
 use Rattle.rom_flow.specs.declared.kind.Kind.the-variants.{P, E}
 use Rattle.rom_flow.specs.State.{State, state}
-use Rattle.rom_flow.specs.Receiver.{fresh}
+use Rattle.rom_flow.specs.Fresh.{kindNumber, freshRecord, fresh}
 use Rattle.rom_flow.proofs.Sounds.{Held}
 use Rattle.rom_flow.proofs.Laws.{held}
 use Rattle.rom_record.specs.declared.Decoded.{Decoded}
 use Rattle.rom_record.specs.declared.Decoded.the-variants as decoded
-use Rattle.rom_record.specs.Record.{kindNumber, written, decodedOf}
-use Rattle.rom.specs.Session.{freshRecord, rom}
+use Rattle.rom_record.specs.Record.{written, decodedOf}
+use Rattle.rom.specs.Session.{rom}
 use Rattle.rom_record.proofs.Records.{decoded-sound, reads-back}
 
 -- a RAM's length is accepted exactly if it is not refused

@@ -7,17 +7,12 @@ use mathlib.Core.List.{List}
 use lib.ListN.{length}
 use Rattle.wire.specs.Length.{isRamLength, badRam}
 use Rattle.machine.specs.Session.{Read, sound, unsound, Session, Result}
-use Rattle.machine.specs.declared.Record.{Record}
 use Rattle.machine.specs.declared.Report.{Report}
 use Rattle.rom_record.specs.declared.Decoded.{Decoded}
 use Rattle.rom_record.specs.declared.Decoded.the-variants.{Sound, Unsound}
 use Rattle.rom_flow.specs.State.{State, state}
 use Rattle.rom_flow.specs.Receiver.{receiver}
 use Rattle.rom_record.specs.Record.{written, decodedOf}
-
--- a fresh record with this kind number, known or not
-abbrev pub freshRecord : (kind : ℕ) → Record
-freshRecord kind = record { kind = kind; phase = 0; opcode = 0; length = 0; place = 0; held = 0; reason = 0; spare = 0 }
 
 abbrev pub readOf : Decoded → (reason : ℕ) (ram : List ℕ) → Read State
 readOf (Sound kind step) reason ram = sound (state kind step reason ram)

@@ -4,7 +4,7 @@ ghost use Rattle.machine.specs.Loop.{Acted};
 ghost use Rattle.machine.specs.Session.{resultOf};
 ghost use Rattle.rom_flow.specs.Receiver.{receiver};
 ghost use Rattle.rom_flow.specs.State.{state};
-ghost use Rattle.rom.specs.Session.{freshRecord, rom, result};
+ghost use Rattle.rom.specs.Session.{rom, result};
 ghost use Rattle.rom_flow.specs.Sound.{Ready};
 use machine::BAD_RECORD;
 use machine::Record;
@@ -22,34 +22,6 @@ use rom_record::decode;
 use rom_record::encode;
 use wire::length::BAD_RAM;
 use wire::length::is_ram_length;
-
-// A receiver's session, by the number of its kind.
-pub struct Receiver {
-    pub kind: u32,
-}
-
-impl Receiver {
-    // The kind numbers of P and E.
-    pub const P: u32 = 0;
-
-    pub const E: u32 = 1;
-
-    // A fresh record; calls refuse it where the kind is unknown.
-    pub fn fresh(kind: u32) -> Record
-        ensures { λ r. ⌜ r ≡ freshRecord kind ⌝ }
-    {
-        Record {
-            kind: kind,
-            phase: 0,
-            opcode: 0,
-            length: 0,
-            place: 0,
-            held: 0,
-            reason: 0,
-            spare: 0,
-        }
-    }
-}
 
 // Where the actions stopped: waiting for a byte (1) or for room (2), or code runs (3).
 struct Stop {

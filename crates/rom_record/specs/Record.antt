@@ -12,16 +12,13 @@ use Rattle.rom_flow.specs.declared.step.Step.{Step}
 use Rattle.rom_flow.specs.declared.step.Step.the-variants.{SendStx, Header, SendAck, TakeCode, SendXor, TakeAck, SendNak, Running}
 use Rattle.rom_flow.specs.declared.step.HeaderStep.{HeaderStep}
 use Rattle.rom_flow.specs.declared.step.HeaderStep.the-variants.{TakeSoh, TakeLow, TakeHigh, TakeExtendedLow, TakeExtendedHigh}
+use Rattle.rom_flow.specs.Fresh.{kindNumber}
 use Rattle.rom_record.specs.declared.Numbers.{Numbers}
 use Rattle.rom_record.specs.declared.Found.{Found}
 use Rattle.rom_record.specs.declared.Found.the-variants.{At}
 use Rattle.rom_record.specs.declared.Found.the-variants as found
 use Rattle.rom_record.specs.declared.Decoded.{Decoded}
 use Rattle.rom_record.specs.declared.Decoded.the-variants.{Sound, Unsound}
-
-abbrev pub kindNumber : Kind → ℕ
-kindNumber P = 0
-kindNumber E = 1
 
 abbrev pub fields : (phase total place held : ℕ) → Numbers
 fields phase total place held = record { phase = phase; length = total; place = place; held = held }

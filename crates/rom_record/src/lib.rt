@@ -1,8 +1,10 @@
 // The receiver's record: a step in numbers, and back.
 ghost use mathlib.Core.Path.{_≡_};
-ghost use Rattle.rom_record.specs.Record.{kindNumber, headerFields, fieldsOf, written, sized, extended, runningIn, placesOf, phaseIn, stepIn, withKind, decodedOf};
+ghost use Rattle.rom_flow.specs.Fresh.{kindNumber};
+ghost use Rattle.rom_record.specs.Record.{headerFields, fieldsOf, written, sized, extended, runningIn, placesOf, phaseIn, stepIn, withKind, decodedOf};
 use machine::Record;
 use rom_flow::kind::Kind;
+use rom_flow::kind::Receiver;
 use rom_flow::step::HeaderStep;
 use rom_flow::step::Step;
 use wire::unit::RamAddress;
@@ -69,8 +71,8 @@ fn kind_number(kind: Kind) -> u32
     ensures { λ r. ⌜ r ≡ kindNumber kind ⌝ }
 {
     match kind {
-        Kind::P => 0,
-        Kind::E => 1,
+        Kind::P => Receiver::P,
+        Kind::E => Receiver::E,
     }
 }
 

@@ -9,10 +9,9 @@ use Rattle.machine.specs.History.{Event}
 use Rattle.machine.specs.Session.{Session}
 use Rattle.machine.specs.declared.Record.{Record}
 use Rattle.rom_flow.specs.declared.kind.Kind.the-variants.{P, E}
-use Rattle.rom_flow.specs.Receiver as receiver
-use Rattle.rom_flow.specs.State as receiver-state
-use Rattle.rom_record.specs.Record.{kindNumber}
-use Rattle.rom.specs.Session.{freshRecord, rom}
+use Rattle.rom_flow.specs.State as receiver
+use Rattle.rom_flow.specs.Fresh as receiver-fresh
+use Rattle.rom.specs.Session.{rom}
 use Rattle.rom.specs.Awaits as rom-awaits
 use Rattle.memory.specs.Memories.{Memories, SameLengths}
 use Rattle.uartboot_flow.specs.State as device
@@ -32,8 +31,8 @@ MemoriesOf romE = List ℕ
 MemoriesOf uartboot = Memories
 
 abbrev pub StateOf : Kind → Type 0
-StateOf romP = receiver-state.State
-StateOf romE = receiver-state.State
+StateOf romP = receiver.State
+StateOf romE = receiver.State
 StateOf uartboot = device.State
 
 abbrev pub sessionOf : (kind : Kind) → Session ℕ (MemoriesOf kind) (StateOf kind)
@@ -43,14 +42,14 @@ sessionOf uartboot = device-session.uartboot
 
 -- the flow's first step with last reason 0
 abbrev pub freshOf : (kind : Kind) → MemoriesOf kind → StateOf kind
-freshOf romP = receiver.fresh P
-freshOf romE = receiver.fresh E
+freshOf romP = receiver-fresh.fresh P
+freshOf romE = receiver-fresh.fresh E
 freshOf uartboot = device-fresh.fresh
 
 -- the record that is handed out for a fresh session
 abbrev pub freshRecordOf : Kind → Record
-freshRecordOf romP = freshRecord (kindNumber P)
-freshRecordOf romE = freshRecord (kindNumber E)
+freshRecordOf romP = receiver-fresh.freshRecord (receiver-fresh.kindNumber P)
+freshRecordOf romE = receiver-fresh.freshRecord (receiver-fresh.kindNumber E)
 freshRecordOf uartboot = device-fresh.freshRecord
 
 -- memories of the same lengths

@@ -2,6 +2,7 @@
 -- Assumes nothing.
 use Prim.Native.Nat.{ℕ}
 use Rattle.machine.specs.declared.Record.{Record}
+use Rattle.machine.specs.Session.{startRecord}
 use Rattle.memory.specs.Memories.{Memories}
 use Rattle.uartboot_flow.specs.State.{State, state}
 use Rattle.uartboot_flow.specs.Flow.{first}
@@ -11,7 +12,7 @@ abbrev pub kindNumber : ℕ
 kindNumber = 2
 
 abbrev pub freshRecord : Record
-freshRecord = record { kind = kindNumber; phase = 0; opcode = 0; length = 0; place = 0; held = 0; reason = 0; spare = 0 }
+freshRecord = startRecord kindNumber
 
 abbrev pub fresh : Memories → State
 fresh m = state first 0 m

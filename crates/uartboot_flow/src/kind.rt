@@ -3,6 +3,7 @@ ghost use mathlib.Core.Path.{_≡_};
 ghost use Rattle.uartboot_flow.specs.Fresh.{freshRecord};
 ghost use Rattle.uartboot_flow.specs.Flow.{greeting};
 use machine::Record;
+use machine::start;
 
 // A uartboot session: what belongs to the session itself.
 pub struct Uartboot {
@@ -29,16 +30,7 @@ impl Uartboot {
     pub fn fresh() -> Record
         ensures { λ r. ⌜ r ≡ freshRecord ⌝ }
     {
-        Record {
-            kind: Uartboot::KIND,
-            phase: 0,
-            opcode: 0,
-            length: 0,
-            place: 0,
-            held: 0,
-            reason: 0,
-            spare: 0,
-        }
+        start(Uartboot::KIND)
     }
 }
 

@@ -30,7 +30,7 @@ use Rattle.uartboot_flow.specs.Sound.{SoundStep, SoundCommand, SoundAnswer}
 use Rattle.uartboot_record.specs.declared.Numbers.{Numbers}
 use Rattle.uartboot_record.specs.declared.Found.{Found}
 use Rattle.uartboot_record.specs.declared.Found.the-variants.{At, Unsound}
-use Rattle.uartboot_record.specs.Record.{fields, commandNumbers, answerNumbers, numbersOf, written, placesOf, plainIn, payloadIn, commandIn, answerStepIn, answerIn, lastIn, withOpcode, phaseIn, stepIn, decodedOf}
+use Rattle.uartboot_record.specs.Record.{fields, commandNumbers, answerNumbers, numbersOf, written, placesOf, plainStep, payloadStep, commandIn, answerStep, answerIn, lastIn, withOpcode, phaseIn, stepIn, decodedOf}
 
 module _ (ram work : ℕ) where
   abbrev InFound : Found → Type 0
@@ -41,20 +41,20 @@ module _ (ram work : ℕ) where
   abbrev Placed : (phase size place : ℕ) → Type 0
   Placed phase size place = place < placesOf phase size
 
-  plain-in : (n : Numbers) → Placed (n .phase) (n .length) (n .place) → InFound (plainIn n)
-  plain-in n p =
+  plain-step : (n : Numbers) → Placed (n .phase) (n .length) (n .place) → SoundStep ram work (plainStep n)
+  plain-step n p =
       let k = n .phase in
-      in-cond InFound (eqb k 0) _ _ (λ e. rw (eqb-true k 0 e) at p) (λ e.
-      in-cond InFound (eqb k 1) _ _ (λ e. tt) (λ e.
-      in-cond InFound (eqb k 2) _ _ (λ e. tt) (λ e.
-      in-cond InFound (eqb k 3) _ _ (λ e. tt) (λ e. tt))))
+      in-cond (SoundStep ram work) (eqb k 0) _ _ (λ e. rw (eqb-true k 0 e) at p) (λ e.
+      in-cond (SoundStep ram work) (eqb k 1) _ _ (λ e. tt) (λ e.
+      in-cond (SoundStep ram work) (eqb k 2) _ _ (λ e. tt) (λ e.
+      in-cond (SoundStep ram work) (eqb k 3) _ _ (λ e. tt) (λ e. tt))))
 
-  payload-in : (opcode : Opcode) (k n p : ℕ) → Placed k n p → Carried opcode n work → 0 < n → InFound (payloadIn opcode k n p)
-  payload-in opcode k n p l h some =
-      in-cond InFound (eqb k 6) _ _ (λ e. (h, rw (eqb-true k 6 e) at l)) (λ e.
-      in-cond InFound (eqb k 7) _ _ (λ e. (h, some)) (λ e.
-      in-cond InFound (eqb k 8) _ _ (λ e. (h, some)) (λ e.
-      in-cond InFound (eqb k 9) _ _ (λ e. (h, some)) (λ e. (h, some)))))
+  payload-step : (k n p : ℕ) → Placed k n p → 0 < n → SoundCommand n (payloadStep k p)
+  payload-step k n p l some =
+      in-cond (SoundCommand n) (eqb k 6) _ _ (λ e. rw (eqb-true k 6 e) at l) (λ e.
+      in-cond (SoundCommand n) (eqb k 7) _ _ (λ e. some) (λ e.
+      in-cond (SoundCommand n) (eqb k 8) _ _ (λ e. some) (λ e.
+      in-cond (SoundCommand n) (eqb k 9) _ _ (λ e. some) (λ e. some))))
 
   command-in : (opcode : Opcode) (n : Numbers) → Placed (n .phase) (n .length) (n .place) → InFound (commandIn work opcode n)
   command-in opcode n p =
@@ -63,29 +63,25 @@ module _ (ram work : ℕ) where
       let h : Carried opcode (n .length) work = record { has-length = not-false _ has; in-work = ltb-false _ _ fits } in
       in-cond InFound (eqb (n .phase) 5) _ _ (λ e. (h, tt)) (λ e.
       in-cond InFound (eqb (n .length) 0) _ _ (λ e. tt) (λ some.
-      payload-in opcode (n .phase) (n .length) (n .place) p h (omega (arith, eqb-false (n .length) 0 some))))))
+      (h, payload-step (n .phase) (n .length) (n .place) p (omega (arith, eqb-false (n .length) 0 some)))))))
 
-  answer-step-in : (opcode : Opcode) (n : Numbers) → Placed (n .phase) (n .length) (n .place) → Answering opcode (n .length) work → InFound (answerStepIn opcode n)
-  answer-step-in opcode n p h =
-      let k = n .phase in
-      in-cond InFound (eqb k 11) _ _ (λ e. (h, tt)) (λ e.
-      in-cond InFound (eqb k 12) _ _ (λ e. (h, tt)) (λ e.
-      in-cond InFound (eqb k 13) _ _ (λ e. (h, tt)) (λ e.
-      in-cond InFound (eqb k 14) _ _ (λ e. (h, rw (eqb-true k 14 e) at p)) (λ e.
-      in-cond InFound (eqb k 15) _ _ (λ e. (h, tt)) (λ e.
-      in-cond InFound (eqb k 16) _ _ (λ e. (h, tt)) (λ e. (h, tt)))))))
+  answer-step : (k n p l : ℕ) → Placed k n p → SoundAnswer n (answerStep k p l)
+  answer-step k n p l h =
+      in-cond (SoundAnswer n) (eqb k 11) _ _ (λ e. tt) (λ e.
+      in-cond (SoundAnswer n) (eqb k 12) _ _ (λ e. tt) (λ e.
+      in-cond (SoundAnswer n) (eqb k 13) _ _ (λ e. tt) (λ e.
+      in-cond (SoundAnswer n) (eqb k 14) _ _ (λ e. rw (eqb-true k 14 e) at h) (λ e.
+      in-cond (SoundAnswer n) (eqb k 15) _ _ (λ e. tt) (λ e.
+      in-cond (SoundAnswer n) (eqb k 16) _ _ (λ e. tt) (λ e. tt))))))
 
   answer-in : (opcode : Opcode) (n : Numbers) → Placed (n .phase) (n .length) (n .place) → InFound (answerIn work opcode n)
   answer-in opcode n p =
       in-cond InFound (not (hasAnswer opcode)) _ _ (λ e. tt) (λ has.
       in-cond InFound (eqb (n .length) 0) _ _ (λ e. tt) (λ some.
       in-cond InFound (ltb work (n .length)) _ _ (λ e. tt) (λ fits.
-      answer-step-in opcode n p
-      (record {
-        has-answer = not-false _ has;
-        some = omega (arith, eqb-false (n .length) 0 some);
-        in-work = ltb-false _ _ fits;
-      }))))
+      let h : Answering opcode (n .length) work =
+      record { has-answer = not-false _ has; some = omega (arith, eqb-false (n .length) 0 some); in-work = ltb-false _ _ fits } in
+      (h, answer-step (n .phase) (n .length) (n .place) (n .held) p))))
 
   last-in : (n : Numbers) → InFound (lastIn ram n)
   last-in n =
@@ -101,7 +97,7 @@ module _ (ram work : ℕ) where
   phase-in : (n : Numbers) → Placed (n .phase) (n .length) (n .place) → InFound (phaseIn ram work n)
   unfolding phaseIn
   phase-in n p =
-      in-cond InFound (ltb (n .phase) 5) _ _ (λ e. plain-in n p) (λ e.
+      in-cond InFound (ltb (n .phase) 5) _ _ (λ e. plain-step n p) (λ e.
       in-cond InFound (ltb 17 (n .phase)) _ _ (λ e. last-in n) (λ e. opcode-in (opcodeOf (n .opcode)) n p))
 
   step-in : (n : Numbers) → InFound (stepIn ram work n)
@@ -124,13 +120,13 @@ module _ (ram work : ℕ) where
 
   -- behind the tests on a command, and on an answer
   payload-back : (opcode : Opcode) (k n p : ℕ) → eqb k 5 ≡ false → ltb k 11 ≡ true → Carried opcode n work → 0 < n
-      → withOpcode work (opcodeOf (opcodeNumber opcode)) (fields k (opcodeNumber opcode) n p 0) ≡ payloadIn opcode k n p
+      → withOpcode work (opcodeOf (opcodeNumber opcode)) (fields k (opcodeNumber opcode) n p 0) ≡ At (Command opcode n (payloadStep k p))
   payload-back opcode k n p behind before h some =
       rw (opcode-back opcode, before, h .has-length, le-ltb work n (h .in-work), behind, nonzero n some)
 
   answering-back : (opcode : Opcode) (k n p l : ℕ) → ltb k 11 ≡ false → Answering opcode n work
       → withOpcode work (opcodeOf (opcodeNumber opcode)) (fields k (opcodeNumber opcode) n p l)
-      ≡ answerStepIn opcode (fields k (opcodeNumber opcode) n p l)
+      ≡ At (Answer opcode n (answerStep k p l))
   answering-back opcode k n p l behind h =
       rw (opcode-back opcode, behind, h .has-answer, nonzero n (h .some), le-ltb work n (h .in-work))
 

@@ -83,22 +83,22 @@ placesOf phase size =
     1))
 
 -- phases 0 to 4; the header's numbers may be any
-abbrev pub plainIn : Numbers → Found
-plainIn n =
-    cond (eqb (n .phase) 0) (At (Greeting (n .place)))
-    (cond (eqb (n .phase) 1) (At (Header TakeSoh))
-    (cond (eqb (n .phase) 2) (At (Header TakeOpcode))
-    (cond (eqb (n .phase) 3) (At (Header (TakeLow (n .opcode))))
-    (At (Header (TakeHigh (n .opcode) (n .held)))))))
+abbrev pub plainStep : Numbers → Step
+plainStep n =
+    cond (eqb (n .phase) 0) (Greeting (n .place))
+    (cond (eqb (n .phase) 1) (Header TakeSoh)
+    (cond (eqb (n .phase) 2) (Header TakeOpcode)
+    (cond (eqb (n .phase) 3) (Header (TakeLow (n .opcode)))
+    (Header (TakeHigh (n .opcode) (n .held))))))
 
 -- phases 6 to 10
-abbrev pub payloadIn : Opcode → (phase size place : ℕ) → Found
-payloadIn opcode phase size place =
-    cond (eqb phase 6) (At (Command opcode size (TakePayload place)))
-    (cond (eqb phase 7) (At (Command opcode size SendPayloadAck))
-    (cond (eqb phase 8) (At (Command opcode size SendCrcLow))
-    (cond (eqb phase 9) (At (Command opcode size SendCrcHigh))
-    (At (Command opcode size TakeGo)))))
+abbrev pub payloadStep : (phase place : ℕ) → CommandStep
+payloadStep phase place =
+    cond (eqb phase 6) (TakePayload place)
+    (cond (eqb phase 7) SendPayloadAck
+    (cond (eqb phase 8) SendCrcLow
+    (cond (eqb phase 9) SendCrcHigh
+    TakeGo)))
 
 -- phases 5 to 10, with a work buffer of `work` bytes; without payload only phase 5 is there
 abbrev pub commandIn : (work : ℕ) → Opcode → Numbers → Found
@@ -107,25 +107,25 @@ commandIn work opcode n =
     (cond (ltb work (n .length)) Unsound
     (cond (eqb (n .phase) 5) (At (Command opcode (n .length) SendAck))
     (cond (eqb (n .length) 0) Unsound
-    (payloadIn opcode (n .phase) (n .length) (n .place)))))
+    (At (Command opcode (n .length) (payloadStep (n .phase) (n .place)))))))
 
 -- phases 11 to 17
-abbrev pub answerStepIn : Opcode → Numbers → Found
-answerStepIn opcode n =
-    cond (eqb (n .phase) 11) (At (Answer opcode (n .length) a.SendLengthLow))
-    (cond (eqb (n .phase) 12) (At (Answer opcode (n .length) a.SendLengthHigh))
-    (cond (eqb (n .phase) 13) (At (Answer opcode (n .length) a.TakeGo))
-    (cond (eqb (n .phase) 14) (At (Answer opcode (n .length) (a.SendAnswer (n .place))))
-    (cond (eqb (n .phase) 15) (At (Answer opcode (n .length) a.TakeCrcLow))
-    (cond (eqb (n .phase) 16) (At (Answer opcode (n .length) (a.TakeCrcHigh (n .held))))
-    (At (Answer opcode (n .length) a.SendAck)))))))
+abbrev pub answerStep : (phase place held : ℕ) → AnswerStep
+answerStep phase place held =
+    cond (eqb phase 11) a.SendLengthLow
+    (cond (eqb phase 12) a.SendLengthHigh
+    (cond (eqb phase 13) a.TakeGo
+    (cond (eqb phase 14) (a.SendAnswer place)
+    (cond (eqb phase 15) a.TakeCrcLow
+    (cond (eqb phase 16) (a.TakeCrcHigh held)
+    a.SendAck)))))
 
 abbrev pub answerIn : (work : ℕ) → Opcode → Numbers → Found
 answerIn work opcode n =
     cond (not (hasAnswer opcode)) Unsound
     (cond (eqb (n .length) 0) Unsound
     (cond (ltb work (n .length)) Unsound
-    (answerStepIn opcode n)))
+    (At (Answer opcode (n .length) (answerStep (n .phase) (n .place) (n .held))))))
 
 -- code runs in RAM, by the command Run
 abbrev pub runningIn : (ram opcode address : ℕ) → Found
@@ -144,7 +144,7 @@ withOpcode work (Known opcode) n = cond (ltb (n .phase) 11) (commandIn work opco
 
 unfoldable pub phaseIn : (ram work : ℕ) → Numbers → Found
 phaseIn ram work n =
-    cond (ltb (n .phase) 5) (plainIn n)
+    cond (ltb (n .phase) 5) (At (plainStep n))
     (cond (ltb 17 (n .phase)) (lastIn ram n)
     (withOpcode work (opcodeOf (n .opcode)) n))
 

@@ -1,6 +1,6 @@
 // The record of a uartboot session: a step in numbers, and back.
 ghost use mathlib.Core.Path.{_≡_};
-ghost use Rattle.uartboot_record.specs.Record.{fields, headerNumbers, commandNumbers, answerNumbers, numbersOf, written, placesOf, plainIn, payloadIn, commandIn, answerStepIn, answerIn, runningIn, lastIn, phaseIn, stepIn, decodedOf};
+ghost use Rattle.uartboot_record.specs.Record.{fields, headerNumbers, commandNumbers, answerNumbers, numbersOf, written, placesOf, plainStep, payloadStep, commandIn, answerStep, answerIn, runningIn, lastIn, phaseIn, stepIn, decodedOf};
 use command::opcode::Lookup;
 use command::opcode::Opcode;
 use command::opcode::has_answer;
@@ -123,29 +123,29 @@ fn places_of(phase: u32, size: u32) -> u32
 }
 
 // The greeting and the header; any other phase is the header's last one.
-fn plain_in(n: Numbers) -> Found
-    ensures { λ r. ⌜ r ≡ plainIn n ⌝ }
+fn plain_step(n: Numbers) -> Step
+    ensures { λ r. ⌜ r ≡ plainStep n ⌝ }
 {
     let phase = n.phase;
     match phase {
-        0 => Found::At(Step::Greeting(n.place)),
-        1 => Found::At(Step::Header(HeaderStep::TakeSoh)),
-        2 => Found::At(Step::Header(HeaderStep::TakeOpcode)),
-        3 => Found::At(Step::Header(HeaderStep::TakeLow(n.opcode))),
-        _ => Found::At(Step::Header(HeaderStep::TakeHigh(n.opcode, n.held))),
+        0 => Step::Greeting(n.place),
+        1 => Step::Header(HeaderStep::TakeSoh),
+        2 => Step::Header(HeaderStep::TakeOpcode),
+        3 => Step::Header(HeaderStep::TakeLow(n.opcode)),
+        _ => Step::Header(HeaderStep::TakeHigh(n.opcode, n.held)),
     }
 }
 
 // The steps from a payload's first byte on; any other phase is the last of them.
-fn payload_in(opcode: Opcode, phase: u32, size: u32, place: u32) -> Found
-    ensures { λ r. ⌜ r ≡ payloadIn opcode phase size place ⌝ }
+fn payload_step(phase: u32, place: u32) -> CommandStep
+    ensures { λ r. ⌜ r ≡ payloadStep phase place ⌝ }
 {
     match phase {
-        6 => Found::At(Step::Command(opcode, size, CommandStep::TakePayload(place))),
-        7 => Found::At(Step::Command(opcode, size, CommandStep::SendPayloadAck)),
-        8 => Found::At(Step::Command(opcode, size, CommandStep::SendCrcLow)),
-        9 => Found::At(Step::Command(opcode, size, CommandStep::SendCrcHigh)),
-        _ => Found::At(Step::Command(opcode, size, CommandStep::TakeGo)),
+        6 => CommandStep::TakePayload(place),
+        7 => CommandStep::SendPayloadAck,
+        8 => CommandStep::SendCrcLow,
+        9 => CommandStep::SendCrcHigh,
+        _ => CommandStep::TakeGo,
     }
 }
 
@@ -166,23 +166,21 @@ fn command_in(work: usize, opcode: Opcode, n: Numbers) -> Found
     if size == 0 {
         return Found::Unsound;
     }
-    payload_in(opcode, n.phase, size, n.place)
+    Found::At(Step::Command(opcode, size, payload_step(n.phase, n.place)))
 }
 
 // The steps of an answer; any other phase is the last of them.
-fn answer_step_in(opcode: Opcode, n: Numbers) -> Found
-    ensures { λ r. ⌜ r ≡ answerStepIn opcode n ⌝ }
+fn answer_step(phase: u32, place: u32, held: u32) -> AnswerStep
+    ensures { λ r. ⌜ r ≡ answerStep phase place held ⌝ }
 {
-    let phase = n.phase;
-    let size = n.length;
     match phase {
-        11 => Found::At(Step::Answer(opcode, size, AnswerStep::SendLengthLow)),
-        12 => Found::At(Step::Answer(opcode, size, AnswerStep::SendLengthHigh)),
-        13 => Found::At(Step::Answer(opcode, size, AnswerStep::TakeGo)),
-        14 => Found::At(Step::Answer(opcode, size, AnswerStep::SendAnswer(n.place))),
-        15 => Found::At(Step::Answer(opcode, size, AnswerStep::TakeCrcLow)),
-        16 => Found::At(Step::Answer(opcode, size, AnswerStep::TakeCrcHigh(n.held))),
-        _ => Found::At(Step::Answer(opcode, size, AnswerStep::SendAck)),
+        11 => AnswerStep::SendLengthLow,
+        12 => AnswerStep::SendLengthHigh,
+        13 => AnswerStep::TakeGo,
+        14 => AnswerStep::SendAnswer(place),
+        15 => AnswerStep::TakeCrcLow,
+        16 => AnswerStep::TakeCrcHigh(held),
+        _ => AnswerStep::SendAck,
     }
 }
 
@@ -199,7 +197,7 @@ fn answer_in(work: usize, opcode: Opcode, n: Numbers) -> Found
     if work < (n.length as usize) {
         return Found::Unsound;
     }
-    answer_step_in(opcode, n)
+    Found::At(Step::Answer(opcode, n.length, answer_step(n.phase, n.place, n.held)))
 }
 
 // Code runs at an address in RAM, by the command Run.
@@ -232,7 +230,7 @@ fn phase_in(ram: usize, work: usize, n: Numbers) -> Found
     ensures { λ r. ⌜ r ≡ phaseIn ram work n ⌝ }
 {
     if n.phase < 5 {
-        return plain_in(n);
+        return Found::At(plain_step(n));
     }
     if 17 < n.phase {
         return last_in(ram, n);

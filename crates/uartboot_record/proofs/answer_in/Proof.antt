@@ -27,14 +27,14 @@ returns-3 c =
       c .before .before .before .before .if1 .left,
     )
 
-answer-step-in-requires : tie.Need-answer-step-in-requires
-answer-step-in-requires c κs = search needs
+answer-step-requires : tie.Need-answer-step-requires
+answer-step-requires c κs = search needs
 
 returns-4 : tie.Need-returns-4
 returns-4 c =
     let tested = c .before .before .before .before .before in
-    c .answer-step-in .ensures ∙
     simp (
+      c .answer-step .ensures,
       sym (tested .before .has-answer .ensures) ∙ not-false _ (tested .if1 .left),
       ne-eqb _ _ (c .before .before .before .if2 .left),
       le-ltb _ _ (c .before .if3 .left),
@@ -49,5 +49,5 @@ answer-in-spec =
     returns-2
     cast-if3
     returns-3
-    answer-step-in-requires
+    answer-step-requires
     returns-4)

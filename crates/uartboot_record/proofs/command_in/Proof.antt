@@ -40,18 +40,19 @@ returns-4 c =
       c .before .before .before .before .if1 .left,
     )
 
-payload-in-requires : tie.Need-payload-in-requires
-payload-in-requires c κs = search needs
+payload-step-requires : tie.Need-payload-step-requires
+payload-step-requires c κs = search needs
 
 returns-5 : tie.Need-returns-5
 returns-5 c =
     let tested = c .before .before .before .before .before in
     rw (
+      c .payload-step .ensures,
       sym (tested .before .has-length .ensures) ∙ not-false _ (tested .if1 .left),
       le-ltb _ _ (c .before .before .before .before .if2 .left),
       ne-eqb _ _ (c .before .before .if3 .left),
       ne-eqb _ _ (c .before .if4 .left),
-    ) (c .payload-in .ensures)
+    )
 
 pub command-in-spec : {M : Type 1} → statement M
 command-in-spec =
@@ -64,5 +65,5 @@ command-in-spec =
     returns-2
     returns-3
     returns-4
-    payload-in-requires
+    payload-step-requires
     returns-5)

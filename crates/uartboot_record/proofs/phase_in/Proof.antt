@@ -7,12 +7,12 @@ use borrow.Author.Needs.{needs}
 use Rattle.uartboot_record.proofs.phase_in.Statement.{statement}
 use Rattle.uartboot_record.proofs.phase_in.Tie as tie
 
-plain-in-requires : tie.Need-plain-in-requires
-plain-in-requires c κs = search needs
+plain-step-requires : tie.Need-plain-step-requires
+plain-step-requires c κs = search needs
 
 returns : tie.Need-returns
 unfolding phaseIn
-returns c = simp (c .plain-in .ensures, lt-ltb _ _ (c .before .if1 .taken))
+returns c = simp (c .plain-step .ensures, lt-ltb _ _ (c .before .if1 .taken))
 
 last-in-requires : tie.Need-last-in-requires
 last-in-requires c κs = search needs
@@ -60,7 +60,7 @@ pub phase-in-spec : {M : Type 1} → statement M
 phase-in-spec =
     tie.close
     (tie.spec
-    plain-in-requires
+    plain-step-requires
     returns
     last-in-requires
     returns-2

@@ -1,8 +1,8 @@
--- `uartboot_record::answer_step_in`: by the phase.
+-- `uartboot_record::answer_step`: by the phase.
 -- Assumes nothing.
 use borrow.Author.Tests.{ne-eqb}
-use Rattle.uartboot_record.proofs.answer_step_in.Statement.{statement}
-use Rattle.uartboot_record.proofs.answer_step_in.Tie as tie
+use Rattle.uartboot_record.proofs.answer_step.Statement.{statement}
+use Rattle.uartboot_record.proofs.answer_step.Tie as tie
 
 returns : tie.Need-returns
 returns c = simp (c .match .keys1)
@@ -33,7 +33,7 @@ returns-7 c =
       ne-eqb _ _ (c .match .rest .0 .0 .0 .0 .0 .1),
     )
 
-pub answer-step-in-spec : {M : Type 1} → statement M
-answer-step-in-spec =
+pub answer-step-spec : {M : Type 1} → statement M
+answer-step-spec =
     tie.close
     (tie.spec returns returns-2 returns-3 returns-4 returns-5 returns-6 returns-7)
