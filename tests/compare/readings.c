@@ -38,10 +38,7 @@ enum { LONGEST_PAYLOAD = 2 * 65536 + 64 };
 
 static uint32_t command_opcode(trial *t)
 {
-    static const uint32_t known[] = {
-        OP_WRITE, OP_READ, OP_COPY, OP_ERASE, OP_RUN, OP_READ_QSPI, OP_VERSION, OP_CHIP_ERASE, OP_DIRECT_WRITE,
-    };
-    uint32_t opcode = PICK_OF(t->c, known);
+    uint32_t opcode = model_opcode(pick(t->c, model_opcodes()));
     if (once_in(t->c, 4))
         opcode = pick(t->c, 32);
     if (once_in(t->c, 12))

@@ -41,8 +41,6 @@ static uint32_t draw_place(trial *t, const setting *s)
     return how < 5 ? PICK_OF(t->c, edges) : any_number(t, &s->contents);
 }
 
-static const uint8_t opcodes[] = {OP_WRITE, OP_READ, OP_COPY, OP_ERASE, OP_RUN, OP_READ_QSPI, OP_VERSION, OP_CHIP_ERASE, OP_DIRECT_WRITE};
-
 /* A command, with its payload: sometimes one with a count that is refused, one as long as the work buffer or longer, or another
    command's. */
 static void draw_command(trial *t, setting *s)
@@ -55,7 +53,7 @@ static void draw_command(trial *t, setting *s)
         plan_bad_count(t, &p, &s->contents);
     if ((how == 10 || how == 11 || how == 14) && model_has_length(p.opcode, most))
         p.length = (uint32_t)PICK_OF(t->c, ends);
-    s->record[WORD_OPCODE] = how == 15 ? PICK_OF(t->c, opcodes) : p.opcode;
+    s->record[WORD_OPCODE] = how == 15 ? model_opcode(pick(t->c, model_opcodes())) : p.opcode;
     s->record[WORD_LENGTH] = p.length;
     if (p.length <= s->contents.work_length)
         memcpy(s->contents.work, p.payload, p.length);
@@ -88,7 +86,7 @@ static void draw_run(trial *t, setting *s)
     if (how < 4)
         s->record[WORD_OPCODE] = OP_RUN;
     else if (how < 7)
-        s->record[WORD_OPCODE] = how < 6 ? PICK_OF(t->c, opcodes) : PICK_OF(t->c, nearly);
+        s->record[WORD_OPCODE] = how < 6 ? model_opcode(pick(t->c, model_opcodes())) : PICK_OF(t->c, nearly);
 }
 
 /* Often in RAM; else at its ends, beside them, near 2^32, or what was drawn. */

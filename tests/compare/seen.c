@@ -138,11 +138,16 @@ static const wanted all[SEENS] = {
 bool all_seen(void)
 {
     bool whole = true;
-    for (int what = 0; what < SEENS; what++)
+    for (int what = 0; what < SEENS; what++) {
+        if (!all[what].name) {
+            printf("number %d of what a run must reach has no row\n", what);
+            return false;
+        }
         for (const int *n = all[what].numbers; *n >= 0; n++)
             if (counts[what][*n] == 0) {
                 printf("no case reached %s %d\n", all[what].name, *n);
                 whole = false;
             }
+    }
     return whole;
 }

@@ -17,8 +17,8 @@ typedef enum {
     /* headers from a fresh record, by opcode: accepted; with too few bytes, too many, more than the work buffer has too, or that alone;
        unknown ones, 1 where they have more bytes than the work buffer */
     SEEN_HEADER_ACCEPTED, SEEN_HEADER_SHORT, SEEN_HEADER_LONG, SEEN_HEADER_LONG_ABOVE, SEEN_HEADER_ABOVE, SEEN_HEADER_STRANGE,
-    /* payloads by opcode: refused with each reason; ranges that end with their memory, one byte behind it, or at 2^32 and more;
-       ranges from the byte before RAM on; answers as long as the work buffer */
+    /* payloads by opcode: refused with each reason, which stand in their order, here and below; ranges that end with their memory, one
+       byte behind it, or at 2^32 and more; ranges from the byte before RAM on; answers as long as the work buffer */
     SEEN_PAYLOAD_14, SEEN_PAYLOAD_15, SEEN_PAYLOAD_16, SEEN_PAYLOAD_17,
     SEEN_RAM_TO_END, SEEN_RAM_PAST_END, SEEN_RAM_WRAPS, SEEN_FLASH_TO_END, SEEN_FLASH_PAST_END, SEEN_FLASH_WRAPS,
     SEEN_RAM_BEFORE, SEEN_ANSWER_FILLS,

@@ -168,7 +168,7 @@ void plan_bad_count(trial *t, planned *p, const model_memories *memories)
     if (!ram && !flash)
         return;
     put_little(p->payload, 4, ram ? RAM_BASE : 0);
-    put_little(p->payload + COUNT_PLACE, 2, PICK_OF(t->c, counts));
+    put_little(p->payload + COUNT_PLACE, p->opcode == OP_ERASE ? 4 : 2, PICK_OF(t->c, counts));
 }
 
 void plan_command(trial *t, planned *p, const model_memories *memories)

@@ -17,9 +17,19 @@ static const shape shapes[] = {
     {OP_VERSION, 0, false, true},      {OP_CHIP_ERASE, 0, false, false}, {OP_DIRECT_WRITE, 6, true, false},
 };
 
+uint32_t model_opcodes(void)
+{
+    return sizeof shapes / sizeof *shapes;
+}
+
+uint8_t model_opcode(uint32_t i)
+{
+    return shapes[i].opcode;
+}
+
 static const shape *shape_of(uint32_t opcode)
 {
-    for (size_t i = 0; i < sizeof shapes / sizeof *shapes; i++)
+    for (uint32_t i = 0; i < model_opcodes(); i++)
         if (shapes[i].opcode == opcode)
             return &shapes[i];
     return NULL;

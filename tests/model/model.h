@@ -118,6 +118,9 @@ typedef struct {
     uint32_t address; /* where code runs */
 } model_outcome;
 
+/* How many opcodes there are, and each of them, in the order of 01's table. */
+uint32_t model_opcodes(void);
+uint8_t model_opcode(uint32_t i);
 bool model_known(uint32_t opcode);
 bool model_has_length(uint32_t opcode, uint64_t length);
 bool model_has_answer(uint32_t opcode);

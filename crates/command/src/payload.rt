@@ -1,6 +1,6 @@
 // What a payload says.
 ghost use mathlib.Core.Path.{_≡_};
-ghost use Prim.Native.Nat.{_+_, _≤_, _<_};
+ghost use Prim.Native.Nat.{_+_, _≤_};
 ghost use lib.ListN.{length};
 ghost use Rattle.wire.specs.Number.{numberAt};
 ghost use Rattle.command.specs.Payload.{addressAt, offsetAt, commandOf, Carried};

@@ -4,7 +4,6 @@ ghost use Prim.Native.Nat.{_+_, _-_, _≤_};
 ghost use lib.ListN.{length};
 ghost use Rattle.memory.specs.Store.{laid, changedFrom, partOf};
 ghost use Rattle.memory.specs.Flash.{burnt};
-ghost use Rattle.memory.specs.Compare.{isFront};
 ghost use Rattle.wire.specs.Unit.{ramBase};
 ghost use Rattle.command.specs.Payload.{Carried};
 ghost use Rattle.memory.specs.Memories.{memories, Fitting};

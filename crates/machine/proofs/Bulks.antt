@@ -5,14 +5,14 @@ use native.Mathlib.Omega.{arith}
 use native.Mathlib.Nat.{add-zero, add-suc}
 use native.Mathlib.Numerals.{add-one}
 use mathlib.Core.Path.{_≡_, refl, ap, subst, _∙_}
-use mathlib.Core.List.{List, [], _∷_}
+use mathlib.Core.List.{List}
 use lib.ListN.{length, getD, set, take, drop, length-drop}
 use lib.Seq.{getD-drop, getD-take, length-take-le, paste, paste-zero, paste-suc}
 use Rattle.memory.specs.Copy.{Copied}
 use Rattle.machine.specs.Machine as machine
 use Rattle.machine.specs.Machine.{Machine}
 use Rattle.machine.specs.Does.{Does, takes, sends, needOf, tookOf, sentOf, byteOf, lineOf}
-use Rattle.machine.specs.Steps.{Takes, Sends, Taken, Shown}
+use Rattle.machine.specs.Steps.{Takes, Sends, Taken, Sent}
 use Rattle.machine.specs.Steps as steps
 use Rattle.machine.proofs.Repeats.{sends-length}
 
@@ -28,7 +28,7 @@ module _ {S : Type 0} (does : S → Does ℕ S) (due : S → ℕ) where
       let all : Takes m input i s 1 (tookOf (does s) s (getD input (i + 0) 0)) = steps.more steps.none e refl here in
       record { some = omega arith; takes = rw f (rw (add-zero i) at all) }
 
-  pub send-one : (old : List ℕ) (j : ℕ) (s t : S) (b : ℕ) → does s ≡ sends b t → j < length old → Shown m s j old 1 t (set old j b)
+  pub send-one : (old : List ℕ) (j : ℕ) (s t : S) (b : ℕ) → does s ≡ sends b t → j < length old → Sent m s j old 1 t (set old j b)
   send-one old j s t b e h =
       let here : j + 0 < length old = omega arith in
       let all : Sends m s j old 1 (sentOf (does s) s) (set old (j + 0) (byteOf (does s))) = steps.more steps.none (ap needOf e) refl here in
@@ -79,8 +79,8 @@ module _ {S : Type 0} (does : S → Does ℕ S) (due : S → ℕ) where
         rw (← paste-suc old j bytes q 0 v w, getD-drop, getD-take end memory (p + q) 0 x, add-suc p q, ← add-one (p + q)) (rw e at all)
 
     -- the copy of as many as are left and have room
-    pub bulk-shown : (q : ℕ) (reply : List ℕ) → p < end → j < length old → Copied (take end memory) p old j (length old) reply q → Shown m (at p) j old q (at (p + q)) reply
-    bulk-shown q reply inside h c =
+    pub bulk-sent : (q : ℕ) (reply : List ℕ) → p < end → j < length old → Copied (take end memory) p old j (length old) reply q → Sent m (at p) j old q (at (p + q)) reply
+    bulk-sent q reply inside h c =
         let k : length (take end memory) ≡ end = length-take-le end memory fits in
         let x : q ≡ min (length old - j) (length (take end memory) - p) = c .count-is in
         record { some = omega arith; sends = rw (c .memory-is) (send-run q (omega arith) (omega arith)) }

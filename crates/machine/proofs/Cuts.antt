@@ -1,4 +1,4 @@
--- Cuts and rooms never change the outcome: the claim, over any lawful machine.
+-- Cuts and rooms never change the outcome, over any lawful machine.
 -- Assumes nothing.
 use Prim.Native.Nat.{ℕ, _+_, _≤_}
 use native.Mathlib.Omega.{arith}

@@ -5,7 +5,7 @@ use mathlib.Core.Path.{_≡_, refl}
 use mathlib.Core.List.{List}
 use lib.ListN.{length}
 use Rattle.machine.specs.Call.{call}
-use Rattle.machine.specs.Lawful.{Any, Kept, Lawful}
+use Rattle.machine.specs.Lawful.{Any, Lawful}
 use Rattle.machine.specs.Session.{Session, sound, accepted, resultOf}
 use Rattle.machine.specs.Reach.{Reach}
 use Rattle.machine.specs.declared.Record.{Record}

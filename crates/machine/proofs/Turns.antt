@@ -10,7 +10,7 @@ use Rattle.machine.specs.Machine.{Machine}
 use Rattle.machine.specs.Does.{Does, needOf, lineOf}
 use Rattle.machine.specs.Lawful.{Any, Lawful}
 use Rattle.machine.specs.Loop.{Acted}
-use Rattle.machine.specs.Steps.{Taken, Shown}
+use Rattle.machine.specs.Steps.{Taken, Sent}
 use Rattle.machine.proofs.Loops.{Reached, reached-start, acted-hungry, acted-choked, acted-runs}
 use Rattle.machine.proofs.Repeats.{reached-takes, reached-sends, takes-keep, sends-keep, takes-fit, sends-fit, sends-length}
 
@@ -31,7 +31,7 @@ module _ {S : Type 0} (does : S → Does ℕ S) (due : S → ℕ) where
       pub took-turn : {s′ : S} {count : ℕ} → Taken m input i s count s′ → Turn m Sound s₀ input old s′ reply (i + count) j
       took-turn h = record { reached = reached-takes _ _ _ _ _ law (t .reached) (h .takes); keeps = takes-keep m Sound (law .stays-sound) (h .takes) (t .keeps) }
 
-      pub sent-turn : {s′ : S} {count : ℕ} {reply′ : List ℕ} → Shown m s j reply count s′ reply′ → Turn m Sound s₀ input old s′ reply′ i (j + count)
+      pub sent-turn : {s′ : S} {count : ℕ} {reply′ : List ℕ} → Sent m s j reply count s′ reply′ → Turn m Sound s₀ input old s′ reply′ i (j + count)
       sent-turn h = record { reached = reached-sends _ _ _ _ _ law (t .reached) (h .sends); keeps = sends-keep m Sound (law .stays-sound) (h .sends) (t .keeps) }
 
       -- what is left of input and room gets less with each turn
@@ -41,10 +41,10 @@ module _ {S : Type 0} (does : S → Does ℕ S) (due : S → ℕ) where
       pub took-less : {s′ : S} {count : ℕ} → Taken m input i s count s′ → length input - (i + count) + (length reply - j) < length input - i + (length reply - j)
       took-less h = omega (arith, h .some, took-fits h)
 
-      pub sent-fits : {s′ : S} {count : ℕ} {reply′ : List ℕ} → Shown m s j reply count s′ reply′ → j + count ≤ length reply′
+      pub sent-fits : {s′ : S} {count : ℕ} {reply′ : List ℕ} → Sent m s j reply count s′ reply′ → j + count ≤ length reply′
       sent-fits h = sends-fit m (h .sends) (t .reached .sent-fits)
 
-      pub sent-less : {s′ : S} {count : ℕ} {reply′ : List ℕ} → Shown m s j reply count s′ reply′ →
+      pub sent-less : {s′ : S} {count : ℕ} {reply′ : List ℕ} → Sent m s j reply count s′ reply′ →
           length input - i + (length reply′ - (j + count)) < length input - i + (length reply - j)
       sent-less h = omega (arith, h .some, sent-fits h, sends-length m (h .sends))
 

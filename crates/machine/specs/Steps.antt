@@ -27,6 +27,6 @@ module _ {S : Type 0} (m : Machine ℕ S) where
     pub takes : Takes input i s count t
 
   -- one or more sends
-  pub record Shown (s : S) (j : ℕ) (old : List ℕ) (count : ℕ) (t : S) (reply : List ℕ) : Type 0 where
+  pub record Sent (s : S) (j : ℕ) (old : List ℕ) (count : ℕ) (t : S) (reply : List ℕ) : Type 0 where
     pub some : 0 < count
     pub sends : Sends s j old count t reply

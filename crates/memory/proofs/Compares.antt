@@ -10,7 +10,7 @@ use lib.Seq.{drop-cons}
 use borrow.Author.Tests.{eq-eqb, ne-eqb}
 use Rattle.memory.specs.Compare.{isFront}
 
--- the bytes from `i` on stand, or do not, as all of them do
+-- the bytes from `i` on begin their part, or do not, as all of them do
 module _ (bytes part : List ℕ) (whole : Bool) (i : ℕ) (so-far : isFront (drop i bytes) (drop i part) ≡ whole) where
   module _ (more : i < length bytes) (there : i < length part) where
     pub is-front-next : getD part i 0 ≡ getD bytes i 0 → isFront (drop (i + 1) bytes) (drop (i + 1) part) ≡ whole

@@ -1,6 +1,6 @@
 -- What the receiver keeps to, so that its lists of calls follow its definition: code runs exactly when its checksum is acknowledged.
 -- Assumes nothing.
-use Prim.Native.Nat.{ℕ, _+_, _*_}
+use Prim.Native.Nat.{ℕ, _+_}
 use mathlib.Core.Path.{_≡_, refl, sym, ap, _∙_}
 use mathlib.Core.Bool.{Bool, true, false, cond, _&&_, and-false}
 use mathlib.Core.List.{List, [], _∷_}
@@ -9,6 +9,7 @@ use lib.ListN.{length, set}
 use Rattle.wire.specs.Bytes.{Byte}
 use Rattle.wire.specs.Length.{isRamLength}
 use Rattle.wire.specs.Line.{soh, ack}
+use Rattle.wire.specs.Number.{paired}
 use Rattle.wire.specs.Unit.{firstAddress}
 use Rattle.wire.proofs.Tests.{in-cond}
 use Rattle.machine.specs.Machine.{isRunning}
@@ -25,8 +26,9 @@ use Rattle.rom_flow.specs.declared.step.HeaderStep.the-variants.{TakeSoh, TakeL
 use Rattle.rom_flow.specs.declared.step.Step.{Step}
 use Rattle.rom_flow.specs.declared.step.Step.the-variants.{SendStx, Header, SendAck, TakeCode, SendXor, TakeAck, SendNak, Running}
 use Rattle.rom_flow.specs.State.{State, state}
-use Rattle.rom_flow.specs.Flow.{notAcked, firstExtended, zeroLength, judged, headed, goes, header, doesAt, does}
-use Rattle.rom_flow.specs.Receiver.{due, receiver}
+use Rattle.rom_flow.specs.Flow.{notAcked, firstExtended, zeroLength, judged, goes, header, doesAt, does}
+use Rattle.rom_flow.specs.Due.{due}
+use Rattle.rom_flow.specs.Receiver.{receiver}
 use Rattle.rom_flow.specs.Fresh.{fresh}
 use Rattle.rom_flow.specs.Sound.{Sound}
 use Rattle.rom_flow.proofs.Laws.{lawful}
@@ -60,9 +62,9 @@ module _ (kind : Kind) (reason : ℕ) (ram : List ℕ) where
   header-starts : (step : HeaderStep) → Starts (state kind (Header step) reason ram) (header kind reason ram step)
   header-starts TakeSoh = λ b. in-cond Quiet (eqb b soh) _ _ (λ e. refl) (λ e. refl)
   header-starts TakeLow = λ b. refl
-  header-starts (TakeHigh low) = λ b. in-cond Quiet (eqb (low + 256 * b) 0) _ _ (λ e. zero-quiet kind reason ram) (λ e. judged-quiet kind reason ram (low + 256 * b))
+  header-starts (TakeHigh low) = λ b. in-cond Quiet (eqb (paired low b) 0) _ _ (λ e. zero-quiet kind reason ram) (λ e. judged-quiet kind reason ram (paired low b))
   header-starts TakeExtendedLow = λ b. refl
-  header-starts (TakeExtendedHigh low) = λ b. judged-quiet kind reason ram (firstExtended + (low + 256 * b))
+  header-starts (TakeExtendedHigh low) = λ b. judged-quiet kind reason ram (firstExtended + paired low b)
 
   step-starts : (step : Step) → Starts (state kind step reason ram) (doesAt kind reason ram step)
   step-starts SendStx = refl

@@ -11,10 +11,9 @@ use Rattle.machine.specs.Lawful.{Any}
 use Rattle.machine.specs.Reach.{Reach}
 use Rattle.machine.specs.Session.{sound}
 use Rattle.machine.specs.declared.Record.{Record}
-use Rattle.machine.proofs.Reaches.{Readable, Lasting, reach}
+use Rattle.machine.proofs.Reaches.{Readable, reach}
 use Rattle.machine.proofs.Refusals.{sound-same, never-sound}
 use Rattle.rom_flow.specs.declared.kind.Kind.{Kind}
-use Rattle.rom_flow.specs.declared.kind.Kind.the-variants.{P, E}
 use Rattle.rom_flow.specs.State.{State, state}
 use Rattle.rom_flow.specs.Fresh.{kindNumber, freshRecord, fresh}
 use Rattle.rom_flow.proofs.Sounds.{Held}

@@ -1,13 +1,13 @@
 -- The turns of the receiver's loop, by what was asked.
 -- Assumes nothing.
-use Prim.Native.Nat.{ℕ, _+_, _≤_}
+use Prim.Native.Nat.{ℕ, _≤_}
 use mathlib.Core.Path.{_≡_, refl, ap}
 use mathlib.Core.List.{List}
 use lib.ListN.{length}
 use Rattle.machine.specs.Does.{Does, needOf}
 use Rattle.machine.specs.Lawful.{Any}
 use Rattle.machine.specs.Loop.{Acted}
-use Rattle.machine.specs.Steps.{Taken, Shown}
+use Rattle.machine.specs.Steps.{Taken, Sent}
 use Rattle.machine.proofs.Turns.{Turn}
 use Rattle.machine.proofs.Turns as turns
 use Rattle.rom_flow.specs.declared.kind.Kind.{Kind}
@@ -20,7 +20,8 @@ use Rattle.rom_flow.specs.declared.ask.Ask.{Ask}
 use Rattle.rom_flow.specs.declared.ask.Ask.the-variants.{Take, Send, Halt}
 use Rattle.rom_flow.specs.State.{State, state}
 use Rattle.rom_flow.specs.Flow.{does}
-use Rattle.rom_flow.specs.Receiver.{due, receiver}
+use Rattle.rom_flow.specs.Due.{due}
+use Rattle.rom_flow.specs.Receiver.{receiver}
 use Rattle.rom_flow.specs.Sound.{Ready}
 use Rattle.rom_flow.specs.Ask.{stepOf, SendsSo, InRam, Asked, SentSo}
 use Rattle.rom_flow.proofs.Asks.{taking-takes, sending-sends}
@@ -61,9 +62,9 @@ module _ {kind : Kind} {first : Step} {reason₀ : ℕ} {ram₀ input old : List
           go (Byte byte next) so = tt
           go (Xor total) so = (rw so at (t .keeps .ready .step-sound)) .1
 
-      pub shown : {r : Moved} {reply′ : List ℕ} → SentSo x last ram j reply r reply′ →
-          Shown receiver (state kind s last ram) j reply (r .count) (state kind (r .step) (r .reason) ram) reply′
-      shown h = h .is kind s sends-so
+      pub sent : {r : Moved} {reply′ : List ℕ} → SentSo x last ram j reply r reply′ →
+          Sent receiver (state kind s last ram) j reply (r .count) (state kind (r .step) (r .reason) ram) reply′
+      sent h = h .is kind s sends-so
 
       pub choked : length reply ≤ j → Acted receiver (state kind first reason₀ ram₀) input old i j 2 (state kind s last ram) reply
       choked h = turns.choked does due (held ram₀ Any) t (sending-sends kind last ram x s sends-so) h

@@ -6,7 +6,7 @@ use mathlib.Core.List.{List}
 use lib.ListN.{length, getD, set}
 use Rattle.machine.specs.Machine as machine
 use Rattle.machine.specs.Does.{Does, sends, needOf}
-use Rattle.machine.specs.Steps.{Taken, Shown}
+use Rattle.machine.specs.Steps.{Taken, Sent}
 use Rattle.machine.proofs.Bulks.{take-one, send-one}
 use Rattle.rom_flow.specs.declared.kind.Kind.{Kind}
 use Rattle.rom_flow.specs.declared.step.HeaderStep.{HeaderStep}
@@ -20,7 +20,8 @@ use Rattle.rom_flow.specs.declared.ask.Taking.{Taking}
 use Rattle.rom_flow.specs.declared.ask.Taking.the-variants.{Header, Code, Ack}
 use Rattle.rom_flow.specs.State.{State, state}
 use Rattle.rom_flow.specs.Flow.{goes, header, doesAt, does, took}
-use Rattle.rom_flow.specs.Receiver.{due, receiver}
+use Rattle.rom_flow.specs.Due.{due}
+use Rattle.rom_flow.specs.Receiver.{receiver}
 use Rattle.rom_flow.specs.Ask.{stepOf, SendsSo}
 
 module _ (kind : Kind) (reason : ℕ) (ram : List ℕ) where
@@ -51,5 +52,5 @@ module _ (kind : Kind) (reason : ℕ) (ram : List ℕ) where
   pub sends-one : (step : Step) (b : ℕ) (next : Step) → doesAt kind reason ram step ≡ sends b (goes kind reason ram next) →
       (old : List ℕ) (j : ℕ) → j < length old → (p : Progress) → p ≡ record { step = next; reason = reason } →
       (r : Moved) → r ≡ record { step = p .step; reason = p .reason; count = 1 } →
-      Shown receiver (state kind step reason ram) j old (r .count) (state kind (r .step) (r .reason) ram) (set old j b)
+      Sent receiver (state kind step reason ram) j old (r .count) (state kind (r .step) (r .reason) ram) (set old j b)
   sends-one step b next e old j h p f r g = rw (g, f) (send-one does due old j _ _ b e h)

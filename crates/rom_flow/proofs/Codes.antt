@@ -14,7 +14,8 @@ use Rattle.rom_flow.specs.declared.step.Step.{Step}
 use Rattle.rom_flow.specs.declared.step.Step.the-variants.{TakeCode}
 use Rattle.rom_flow.specs.State.{State, state}
 use Rattle.rom_flow.specs.Flow.{codeStep, does}
-use Rattle.rom_flow.specs.Receiver.{due, receiver}
+use Rattle.rom_flow.specs.Due.{due}
+use Rattle.rom_flow.specs.Receiver.{receiver}
 
 module _ (kind : Kind) (total reason : ℕ) where
   -- with so many of the code's bytes in

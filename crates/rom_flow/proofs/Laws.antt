@@ -12,7 +12,8 @@ use Rattle.rom_flow.specs.declared.step.Step.{Step}
 use Rattle.rom_flow.specs.declared.step.Step.the-variants.{SendStx, Header, SendAck, TakeCode, SendXor, TakeAck, SendNak, Running}
 use Rattle.rom_flow.specs.State.{State, state}
 use Rattle.rom_flow.specs.Flow.{header, doesAt, does}
-use Rattle.rom_flow.specs.Receiver.{due, receiver}
+use Rattle.rom_flow.specs.Due.{due}
+use Rattle.rom_flow.specs.Receiver.{receiver}
 use Rattle.rom_flow.specs.Sound.{Sound}
 use Rattle.rom_flow.proofs.Sounds.{Held, stays-held}
 

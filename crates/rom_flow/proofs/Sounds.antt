@@ -1,6 +1,6 @@
 -- Every action leaves a sound state, and a RAM of the same length.
 -- Assumes nothing.
-use Prim.Native.Nat.{ℕ, _+_, _*_, _<_, _≤_}
+use Prim.Native.Nat.{ℕ, _+_, _<_, _≤_}
 use native.Mathlib.Omega.{arith}
 use mathlib.Core.Path.{_≡_, _∙_}
 use mathlib.Core.Bool.{true}
@@ -10,6 +10,7 @@ use lib.ListN.{length, set, length-set}
 use borrow.Author.Tests.{leb-true, ltb-true, eqb-false}
 use Rattle.wire.specs.Length.{isRamLength}
 use Rattle.wire.specs.Line.{soh, ack}
+use Rattle.wire.specs.Number.{paired}
 use Rattle.wire.specs.Unit.{ramBase, firstAddress}
 use Rattle.wire.proofs.Ranges.{lies-first}
 use Rattle.wire.proofs.Tests.{in-cond}
@@ -64,9 +65,9 @@ module _ (ram₀ : List ℕ) where
     header-held TakeSoh h =
         λ b g. in-cond (Held ram₀) (eqb b soh) _ _ (λ e. on reason ram fits same kind (Header TakeLow) tt) (λ e. refuses-held reason ram fits same kind notSoh)
     header-held TakeLow h = λ b g. on reason ram fits same kind (Header (TakeHigh b)) tt
-    header-held (TakeHigh low) h = λ b g. headed-held reason ram fits same kind (low + 256 * b)
+    header-held (TakeHigh low) h = λ b g. headed-held reason ram fits same kind (paired low b)
     header-held TakeExtendedLow h = λ b g. on reason ram fits same kind (Header (TakeExtendedHigh b)) h
-    header-held (TakeExtendedHigh low) h = λ b g. judged-held reason ram fits same kind (firstExtended + (low + 256 * b)) (omega arith)
+    header-held (TakeExtendedHigh low) h = λ b g. judged-held reason ram fits same kind (firstExtended + paired low b) (omega arith)
 
     code-held : (total count : ℕ) (ram′ : List ℕ) → length ram′ ≡ length ram → 0 < total → total ≤ length ram → Held ram₀ (state kind (codeStep total count) reason ram′)
     code-held total count ram′ l some inside =

@@ -3,13 +3,11 @@
 use Prim.Native.Nat.{ℕ, _≤_}
 use mathlib.Core.Path.{_≡_}
 use mathlib.Core.List.{List}
-use lib.ListN.{length}
 use Rattle.machine.specs.Does.{sends, runs}
-use Rattle.machine.specs.Steps.{Taken, Shown}
+use Rattle.machine.specs.Steps.{Sent}
 use Rattle.rom_flow.specs.declared.kind.Kind.{Kind}
 use Rattle.rom_flow.specs.declared.step.Step.{Step}
 use Rattle.rom_flow.specs.declared.step.Step.the-variants.{Header, TakeCode, SendXor, TakeAck}
-use Rattle.rom_flow.specs.declared.step.Progress.{Progress}
 use Rattle.rom_flow.specs.declared.step.Moved.{Moved}
 use Rattle.rom_flow.specs.declared.ask.Taking.{Taking}
 use Rattle.rom_flow.specs.declared.ask.Taking.the-variants as taking
@@ -17,7 +15,7 @@ use Rattle.rom_flow.specs.declared.ask.Sending.{Sending}
 use Rattle.rom_flow.specs.declared.ask.Sending.the-variants.{Byte, Xor}
 use Rattle.rom_flow.specs.declared.ask.Ask.{Ask}
 use Rattle.rom_flow.specs.declared.ask.Ask.the-variants.{Take, Send, Halt}
-use Rattle.rom_flow.specs.State.{State, state}
+use Rattle.rom_flow.specs.State.{state}
 use Rattle.rom_flow.specs.Flow.{goes, doesAt}
 use Rattle.rom_flow.specs.Receiver.{receiver}
 
@@ -49,23 +47,7 @@ Asked (Take t) step = step ≡ stepOf t
 Asked (Send t) step = SendsSo t step
 Asked Halt step = Halts step
 
--- a step and a reason, with a RAM, are the state that the flow comes to: whatever kind and RAM are
-pub record EndsIn (p : Progress) (next : Kind → (ram : List ℕ) → State) : Type 0 where
-  pub is : (kind : Kind) (ram : List ℕ) → state kind (p .step) (p .reason) ram ≡ next kind ram
-
--- for this kind and a RAM of so many bytes
-pub record Gives (size : ℕ) (kind : Kind) (p : Progress) (next : (ram : List ℕ) → State) : Type 0 where
-  pub is : (ram : List ℕ) → length ram ≡ size → state kind (p .step) (p .reason) ram ≡ next ram
-
--- for each kind
-pub record GivesEach (size : ℕ) (p : Progress) (next : Kind → (ram : List ℕ) → State) : Type 0 where
-  pub is : (kind : Kind) → Gives size kind p (next kind)
-
--- code bytes were taken, whatever the kind is
-pub record CodeTaken (total place reason : ℕ) (input : List ℕ) (i : ℕ) (ram : List ℕ) (moved : Moved) (ram′ : List ℕ) : Type 0 where
-  pub is : (kind : Kind) → Taken receiver input i (state kind (TakeCode total place) reason ram) (moved .count) (state kind (moved .step) (moved .reason) ram′)
-
 -- what a sending sent, for each kind and each step that sends so
 pub record SentSo (sending : Sending) (reason : ℕ) (ram : List ℕ) (j : ℕ) (old : List ℕ) (moved : Moved) (reply : List ℕ) : Type 0 where
   pub is : (kind : Kind) (step : Step) → SendsSo sending step →
-      Shown receiver (state kind step reason ram) j old (moved .count) (state kind (moved .step) (moved .reason) ram) reply
+      Sent receiver (state kind step reason ram) j old (moved .count) (state kind (moved .step) (moved .reason) ram) reply

@@ -3,24 +3,9 @@
 use Prim.Native.Nat.{ℕ}
 use Rattle.machine.specs.Machine.{Machine}
 use Rattle.machine.specs.Does.{lineOf}
-use Rattle.rom_flow.specs.declared.step.Step.{Step}
-use Rattle.rom_flow.specs.declared.step.Step.the-variants.{SendStx, Header, SendAck, TakeCode, SendXor, TakeAck, SendNak, Running}
 use Rattle.rom_flow.specs.State.{State}
 use Rattle.rom_flow.specs.Flow.{does}
-
--- how many bytes are sent from a step before one is taken
-abbrev pub dueAt : Step → ℕ
-dueAt SendStx = 1
-dueAt (Header step) = 0
-dueAt (SendAck total) = 1
-dueAt (TakeCode total place) = 0
-dueAt (SendXor total) = 1
-dueAt (TakeAck total) = 0
-dueAt SendNak = 2
-dueAt (Running address) = 0
-
-abbrev pub due : State → ℕ
-due s = dueAt (s .step)
+use Rattle.rom_flow.specs.Due.{due}
 
 abbrev pub receiver : Machine ℕ State
 receiver = lineOf does due

@@ -2,7 +2,7 @@
 ghost use mathlib.Core.Path.{_≡_};
 ghost use Prim.Native.Nat.{_≤_, _<_};
 ghost use lib.ListN.{length, take};
-ghost use Rattle.rom_flow.specs.Ask.{EndsIn, CodeTaken};
+ghost use Rattle.rom_flow.specs.Gives.{EndsIn, CodeTaken};
 ghost use Rattle.rom_flow.specs.Flow.{xorOf, codeStep, acked};
 use crate::step::Moved;
 use crate::step::Progress;

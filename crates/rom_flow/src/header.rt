@@ -1,5 +1,5 @@
 // The header: 01, and a length that is judged by the kind and the RAM.
-ghost use Rattle.rom_flow.specs.Ask.{Gives, GivesEach};
+ghost use Rattle.rom_flow.specs.Gives.{Gives, GivesEach};
 ghost use Rattle.rom_flow.specs.Flow.{zeroLength, judged, headed, took};
 ghost use Rattle.rom_flow.specs.State.{state};
 use crate::kind::Kind;

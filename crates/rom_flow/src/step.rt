@@ -38,7 +38,7 @@ pub fn to(step: Step, reason: u32) -> Progress
     }
 }
 
-// The same after so many bytes were taken.
+// The same after so many bytes were taken, or sent.
 pub struct Moved {
     pub step: Step,
     pub reason: u32,

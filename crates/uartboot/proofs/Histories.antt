@@ -1,13 +1,14 @@
 -- What every action leaves of a session's history: when code starts, what becomes of RAM and flash, and that an accepted payload still
 -- passes its checks.
 -- Assumes nothing.
-use Prim.Native.Nat.{ℕ, _+_, _*_}
+use Prim.Native.Nat.{ℕ, _+_}
 use mathlib.Core.Path.{_≡_, refl, sym, _∙_}
 use mathlib.Core.Bool.{Bool, true, false, cond, not, _&&_, and-true, and-false}
 use mathlib.Core.List.{List, [], _∷_}
 use lib.Dec.{eqb, ltb}
 use borrow.Author.Tests.{eqb-true}
 use Rattle.wire.specs.Line.{soh, ack}
+use Rattle.wire.specs.Number.{paired}
 use Rattle.wire.proofs.Tests.{in-cond}
 use Rattle.machine.specs.Machine.{isRunning}
 use Rattle.machine.specs.Does.{Does, takes, sends, runs, needOf}
@@ -123,7 +124,7 @@ module _ (reason : ℕ) (m : Memories) where
       go b false e = record { starts = refl; goes-on = rw e (quiet (refl, refl) (λ z. z)); checks = tt }
   header-left TakeOpcode = λ b. record { starts = refl; goes-on = quiet (refl, refl) (λ z. refl); checks = tt }
   header-left (TakeLow opcode) = λ b. record { starts = refl; goes-on = quiet (refl, refl) (λ z. refl); checks = tt }
-  header-left (TakeHigh opcode low) = λ b. go (opcodeOf opcode) b (low + 256 * b)
+  header-left (TakeHigh opcode low) = λ b. go (opcodeOf opcode) b (paired low b)
     where
       go : (known : Lookup) (b n : ℕ) → Left (here (Header (TakeHigh opcode low))) (b ∷ []) (headed reason m known n)
       go Unknown b n = record { starts = refl; goes-on = quiet (refl, refl) (λ z. refl); checks = tt }
@@ -183,7 +184,7 @@ module _ (reason : ℕ) (m : Memories) where
       (λ e. record { starts = refl; goes-on = quiet (refl, refl) (λ z. z); checks = tt })
   answer-left opcode n a.TakeCrcLow = λ b. record { starts = refl; goes-on = quiet (refl, refl) (λ z. z); checks = tt }
   answer-left opcode n (a.TakeCrcHigh low) =
-      λ b. in-cond (Left (here (Answer opcode n (a.TakeCrcHigh low))) (b ∷ [])) (eqb (low + 256 * b) (crc16 n (m .work))) _ _
+      λ b. in-cond (Left (here (Answer opcode n (a.TakeCrcHigh low))) (b ∷ [])) (eqb (paired low b) (crc16 n (m .work))) _ _
       (λ e. record { starts = refl; goes-on = quiet (refl, refl) (λ z. z); checks = tt })
       (λ e. record { starts = refl; goes-on = quiet (refl, refl) (λ z. z); checks = tt })
   answer-left opcode n a.SendAck = record { starts = refl; goes-on = quiet (refl, refl) (λ z. z); checks = tt }

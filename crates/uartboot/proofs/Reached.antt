@@ -7,7 +7,7 @@ use Rattle.machine.specs.Lawful.{Any}
 use Rattle.machine.specs.Reach.{Reach}
 use Rattle.machine.specs.Session.{sound}
 use Rattle.machine.specs.declared.Record.{Record}
-use Rattle.machine.proofs.Reaches.{Readable, Lasting, reach}
+use Rattle.machine.proofs.Reaches.{Readable, reach}
 use Rattle.machine.proofs.Refusals.{sound-same, never-sound}
 use Rattle.memory.specs.Memories.{Memories, SameLengths}
 use Rattle.uartboot_flow.specs.State.{State, state}

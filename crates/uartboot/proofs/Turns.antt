@@ -7,7 +7,7 @@ use lib.ListN.{length}
 use Rattle.machine.specs.Does.{Does, needOf}
 use Rattle.machine.specs.Lawful.{Any}
 use Rattle.machine.specs.Loop.{Acted}
-use Rattle.machine.specs.Steps.{Taken, Shown}
+use Rattle.machine.specs.Steps.{Taken, Sent}
 use Rattle.machine.proofs.Turns.{Turn}
 use Rattle.machine.proofs.Turns as turns
 use Rattle.memory.specs.Memories.{Memories}
@@ -57,9 +57,9 @@ module _ {first : Step} {reason₀ : ℕ} {m₀ : Memories} {input old : List �
         pub ready-to-send : ReadyTo x m
         ready-to-send = ready-to m x s sends-so (t .keeps .ready)
 
-        pub shown : {r : Moved} {m′ : Memories} {reply′ : List ℕ} → SentSo x last m j reply r m′ reply′ →
-            Shown device (state s last m) j reply (r .count) (state (r .step) (r .reason) m′) reply′
-        shown h = h .is s sends-so
+        pub sent : {r : Moved} {m′ : Memories} {reply′ : List ℕ} → SentSo x last m j reply r m′ reply′ →
+            Sent device (state s last m) j reply (r .count) (state (r .step) (r .reason) m′) reply′
+        sent h = h .is s sends-so
 
         pub choked : length reply ≤ j → Acted device (state first reason₀ m₀) input old i j 2 (state s last m) reply
         choked h = turns.choked does due (held m₀ Any) t (sending-sends last m x s sends-so) h

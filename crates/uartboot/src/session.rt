@@ -1,6 +1,5 @@
 // The session: the loop over its turns, and the call.
 ghost use mathlib.Core.Path.{_≡_};
-ghost use lib.ListN.{length};
 ghost use Rattle.machine.specs.Loop.{Acted};
 ghost use Rattle.machine.specs.Session.{resultOf};
 ghost use Rattle.memory.specs.Memories.{memories};

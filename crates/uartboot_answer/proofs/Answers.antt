@@ -9,8 +9,8 @@ use lib.Seq.{length-take-le}
 use borrow.Author.Tests.{lt-ltb}
 use Rattle.memory.specs.Copy.{Copied}
 use Rattle.machine.specs.Does.{sends}
-use Rattle.machine.specs.Steps.{Shown}
-use Rattle.machine.proofs.Bulks.{bulk-shown}
+use Rattle.machine.specs.Steps.{Sent}
+use Rattle.machine.proofs.Bulks.{bulk-sent}
 use Rattle.command.specs.declared.opcode.Opcode.{Opcode}
 use Rattle.memory.specs.Memories.{memories}
 use Rattle.uartboot_flow.specs.declared.step.Step.{Step}
@@ -37,8 +37,8 @@ module _ (opcode : Opcode) (size reason : ℕ) (ram flash work : List ℕ) where
   sends-next : (k : ℕ) → k < size → does (at k) ≡ sends (getD work k 0) (at (k + 1))
   sends-next k h = rw (lt-ltb k size h) refl
 
-  pub answer-shown : (old : List ℕ) (j place count : ℕ) (reply : List ℕ) → place < size → size ≤ length work → j < length old →
+  pub answer-sent : (old : List ℕ) (j place count : ℕ) (reply : List ℕ) → place < size → size ≤ length work → j < length old →
       Copied (take size work) place old j (length old) reply count → (next : Step) → next ≡ showed opcode size (place + count) →
-      Shown device (state (Answer opcode size (SendAnswer place)) reason (memories ram flash work)) j old count (state next reason (memories ram flash work)) reply
-  answer-shown old j place count reply inside fits h c next e =
-      rw e (rw (lt-ltb place size inside) at (bulk-shown does due at size work sends-next old j place fits count reply inside h c))
+      Sent device (state (Answer opcode size (SendAnswer place)) reason (memories ram flash work)) j old count (state next reason (memories ram flash work)) reply
+  answer-sent old j place count reply inside fits h c next e =
+      rw e (rw (lt-ltb place size inside) at (bulk-sent does due at size work sends-next old j place fits count reply inside h c))

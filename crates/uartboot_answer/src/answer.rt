@@ -4,7 +4,7 @@ ghost use Prim.Native.Nat.{_≤_, _<_};
 ghost use lib.ListN.{length};
 ghost use Rattle.uartboot_flow.specs.Flow as flow;
 ghost use Rattle.uartboot_flow.specs.State.{state};
-ghost use Rattle.uartboot_flow.specs.Gives.{ShownFrom};
+ghost use Rattle.uartboot_flow.specs.Gives.{SentFrom};
 use command::opcode::Opcode;
 use memory::copy::copy_up_to;
 use uartboot_flow::step::AnswerStep;
@@ -12,7 +12,7 @@ use uartboot_flow::step::Moved;
 use uartboot_flow::step::Step;
 
 // So many of the answer's bytes are sent.
-pub fn showed(opcode: Opcode, size: u32, count: u32) -> Step
+fn showed(opcode: Opcode, size: u32, count: u32) -> Step
     ensures { λ r. ⌜ r ≡ flow.showed opcode size count ⌝ }
 {
     if count < size {
@@ -33,7 +33,7 @@ pub fn send_answer(
     j: usize,
 ) -> Moved
     requires { ⌜ (place < size) × (size ≤ length (now work)) × (j < length (now reply)) ⌝ }
-    ensures { λ r. ⌜ ShownFrom (now (work .entry)) (state (Step.Answer opcode size (AnswerStep.SendAnswer place)) reason) (state (r .step) (r .reason)) j (now (reply .entry)) (r .count) (now (reply .exit)) ⌝ }
+    ensures { λ r. ⌜ SentFrom (now (work .entry)) (state (Step.Answer opcode size (AnswerStep.SendAnswer place)) reason) (state (r .step) (r .reason)) j (now (reply .entry)) (r .count) (now (reply .exit)) ⌝ }
 {
     let end = size as usize;
     let room = reply.len();

@@ -1,5 +1,4 @@
 // What the host says to an answer: its 06, and its CRC.
-ghost use mathlib.Core.Path.{_≡_};
 ghost use Prim.Native.Nat.{_≤_};
 ghost use lib.ListN.{length};
 ghost use Rattle.uartboot_flow.specs.Flow.{took};
@@ -17,7 +16,7 @@ use wire::line::ACK;
 use wire::number::pair;
 
 // The byte after an answer's length: only 06 lets the answer follow.
-pub fn took_go(opcode: Opcode, size: u32, reason: u32, byte: u8) -> Progress
+pub fn took_answer_go(opcode: Opcode, size: u32, reason: u32, byte: u8) -> Progress
     ensures { λ r. ⌜ EndsIn r (λ m. took (state (Step.Answer opcode size AnswerStep.TakeGo) reason m) byte) ⌝ }
 {
     if byte == ACK {

@@ -1,6 +1,6 @@
 -- Every action leaves a sound state, and memories of the same lengths.
 -- Assumes nothing.
-use Prim.Native.Nat.{ℕ, _+_, _*_, _<_}
+use Prim.Native.Nat.{ℕ, _+_, _<_}
 use native.Mathlib.Omega.{arith}
 use mathlib.Core.Path.{_≡_, _∙_}
 use mathlib.Core.Bool.{cond, not}
@@ -9,6 +9,7 @@ use lib.Dec.{eqb, ltb}
 use lib.ListN.{length, length-set}
 use borrow.Author.Tests.{ltb-true, ltb-false, eqb-false, not-false}
 use Rattle.wire.specs.Line.{soh, ack}
+use Rattle.wire.specs.Number.{paired}
 use Rattle.wire.proofs.Tests.{in-cond}
 use Rattle.machine.specs.Does.{Does}
 use Rattle.machine.proofs.Doing.{Leaves}
@@ -96,7 +97,7 @@ module _ (m₀ : Memories) where
     header-held TakeSoh = λ b g. on reason m fit same (Header (cond (eqb b soh) TakeOpcode TakeSoh)) tt
     header-held TakeOpcode = λ b g. on reason m fit same (Header (TakeLow b)) tt
     header-held (TakeLow opcode) = λ b g. on reason m fit same (Header (TakeHigh opcode b)) tt
-    header-held (TakeHigh opcode low) = λ b g. headed-held reason m fit same (opcodeOf opcode) (low + 256 * b)
+    header-held (TakeHigh opcode low) = λ b g. headed-held reason m fit same (opcodeOf opcode) (paired low b)
 
     command-held : (opcode : Opcode) (n : ℕ) (step : CommandStep) → SoundStep (length (m .ram)) (length (m .work)) (Command opcode n step) →
         Stays (command reason m opcode n step)
@@ -127,7 +128,7 @@ module _ (m₀ : Memories) where
         on reason m fit same (showed opcode n (place + 1)) (h .0, more)
     answer-held opcode n a.TakeCrcLow h = λ b g. on reason m fit same (Answer opcode n (a.TakeCrcHigh b)) (h .0, tt)
     answer-held opcode n (a.TakeCrcHigh low) h =
-        λ b g. in-cond (Held m₀) (eqb (low + 256 * b) (crc16 n (m .work))) _ _ (λ e. on reason m fit same (Answer opcode n a.SendAck) (h .0, tt))
+        λ b g. in-cond (Held m₀) (eqb (paired low b) (crc16 n (m .work))) _ _ (λ e. on reason m fit same (Answer opcode n a.SendAck) (h .0, tt))
         (λ e. refuses-held reason m fit same crcDiffers)
     answer-held opcode n a.SendAck h = first-held reason m fit same reason
 

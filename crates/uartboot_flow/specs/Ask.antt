@@ -4,7 +4,7 @@ use Prim.Native.Nat.{ℕ}
 use mathlib.Core.Path.{_≡_}
 use mathlib.Core.List.{List}
 use Rattle.machine.specs.Does.{sends, runs}
-use Rattle.machine.specs.Steps.{Shown}
+use Rattle.machine.specs.Steps.{Sent}
 use Rattle.memory.specs.Memories.{Memories}
 use Rattle.uartboot_flow.specs.declared.step.Step.{Step}
 use Rattle.uartboot_flow.specs.declared.step.Moved.{Moved}
@@ -61,4 +61,4 @@ ReadyTo (sending.Answer opcode size place) m = Ready (Answer opcode size (a.Send
 
 -- what a sending sent, for each step that sends so
 pub record SentSo (x : Sending) (reason : ℕ) (m : Memories) (j : ℕ) (old : List ℕ) (moved : Moved) (m′ : Memories) (reply : List ℕ) : Type 0 where
-  pub is : (step : Step) → SendsSo x step → Shown device (state step reason m) j old (moved .count) (state (moved .step) (moved .reason) m′) reply
+  pub is : (step : Step) → SendsSo x step → Sent device (state step reason m) j old (moved .count) (state (moved .step) (moved .reason) m′) reply

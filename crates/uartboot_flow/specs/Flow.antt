@@ -115,12 +115,12 @@ showed opcode size count = Answer opcode size (cond (ltb count size) (a.SendAnsw
 
 module _ (reason : ℕ) (m : Memories) where
   -- after the header's 06: step 3 for a command without payload, and else its payload
-  abbrev pub accepted : Opcode → (size : ℕ) → State
-  accepted opcode size = cond (eqb size 0) (executes reason m opcode size) (goes reason m (Command opcode size (TakePayload 0)))
+  abbrev pub afterAck : Opcode → (size : ℕ) → State
+  afterAck opcode size = cond (eqb size 0) (executes reason m opcode size) (goes reason m (Command opcode size (TakePayload 0)))
 
   -- the header's 06 and step 2; step 3 follows the host's 06
   abbrev pub command : Opcode → (size : ℕ) → CommandStep → Does ℕ State
-  command opcode size SendAck = sends ack (accepted opcode size)
+  command opcode size SendAck = sends ack (afterAck opcode size)
   command opcode size (TakePayload place) = takes (λ byte. arrived reason (stored place byte m) opcode size (place + 1))
   command opcode size SendPayloadAck = sends ack (goes reason m (Command opcode size SendCrcLow))
   command opcode size SendCrcLow = sends (lowByte (crc16 size (m .work))) (goes reason m (Command opcode size SendCrcHigh))

@@ -3,7 +3,7 @@
 use Prim.Native.Nat.{ℕ}
 use mathlib.Core.Path.{_≡_}
 use mathlib.Core.List.{List}
-use Rattle.machine.specs.Steps.{Shown}
+use Rattle.machine.specs.Steps.{Sent}
 use Rattle.memory.specs.Memories.{Memories, memories}
 use Rattle.uartboot_flow.specs.declared.step.Step.{Step}
 use Rattle.uartboot_flow.specs.declared.step.Progress.{Progress}
@@ -26,5 +26,5 @@ pub record EndsIn (p : Progress) (next : Memories → State) : Type 0 where
   pub is : (m : Memories) → stateOf p m ≡ next m
 
 -- one or more sends, whatever RAM and flash hold, beside this work buffer
-pub record ShownFrom (work : List ℕ) (before after : Memories → State) (j : ℕ) (old : List ℕ) (count : ℕ) (reply : List ℕ) : Type 0 where
-  pub is : (ram flash : List ℕ) → Shown device (before (memories ram flash work)) j old count (after (memories ram flash work)) reply
+pub record SentFrom (work : List ℕ) (before after : Memories → State) (j : ℕ) (old : List ℕ) (count : ℕ) (reply : List ℕ) : Type 0 where
+  pub is : (ram flash : List ℕ) → Sent device (before (memories ram flash work)) j old count (after (memories ram flash work)) reply

@@ -67,7 +67,7 @@ fn ask_command(opcode: Opcode, size: u32, step: CommandStep) -> Ask
     }
 }
 
-// A byte of an answer's length or of its end, and the step of the answer that follows.
+// A byte of an answer's length, and the step of the answer that follows.
 fn say(byte: u8, opcode: Opcode, size: u32, next: AnswerStep) -> Ask
     ensures { λ r. ⌜ r ≡ Ask.Send (Sending.Byte byte (Step.Answer opcode size next)) ⌝ }
 {

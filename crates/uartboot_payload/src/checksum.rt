@@ -2,7 +2,7 @@
 ghost use Prim.Native.Nat.{_≤_, _<_};
 ghost use lib.ListN.{length};
 ghost use Rattle.uartboot_flow.specs.State.{state};
-ghost use Rattle.uartboot_flow.specs.Gives.{ShownFrom};
+ghost use Rattle.uartboot_flow.specs.Gives.{SentFrom};
 use command::opcode::Opcode;
 use uartboot_flow::checksum::crc_of;
 use uartboot_flow::step::CommandStep;
@@ -21,7 +21,7 @@ pub fn send_crc(
     j: usize,
 ) -> Moved
     requires { ⌜ (size ≤ length (now work)) × (j < length (now reply)) ⌝ }
-    ensures { λ r. ⌜ ShownFrom (now (work .entry)) (state (Step.Command opcode size CommandStep.SendCrcLow) reason) (state (r .step) (r .reason)) j (now (reply .entry)) (r .count) (now (reply .exit)) ⌝ }
+    ensures { λ r. ⌜ SentFrom (now (work .entry)) (state (Step.Command opcode size CommandStep.SendCrcLow) reason) (state (r .step) (r .reason)) j (now (reply .entry)) (r .count) (now (reply .exit)) ⌝ }
 {
     let crc = crc_of(size, work);
     reply[j] = low_byte(crc as u32);
@@ -51,7 +51,7 @@ pub fn send_crc_high(
     j: usize,
 ) -> Moved
     requires { ⌜ (size ≤ length (now work)) × (j < length (now reply)) ⌝ }
-    ensures { λ r. ⌜ ShownFrom (now (work .entry)) (state (Step.Command opcode size CommandStep.SendCrcHigh) reason) (state (r .step) (r .reason)) j (now (reply .entry)) (r .count) (now (reply .exit)) ⌝ }
+    ensures { λ r. ⌜ SentFrom (now (work .entry)) (state (Step.Command opcode size CommandStep.SendCrcHigh) reason) (state (r .step) (r .reason)) j (now (reply .entry)) (r .count) (now (reply .exit)) ⌝ }
 {
     reply[j] = high_byte(crc_of(size, work) as u32);
     Moved {

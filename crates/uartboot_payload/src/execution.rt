@@ -3,7 +3,7 @@ ghost use mathlib.Core.Path.{_≡_};
 ghost use lib.ListN.{length};
 ghost use Rattle.command.specs.Payload.{Carried};
 ghost use Rattle.memory.specs.Memories.{memories, Fitting};
-ghost use Rattle.uartboot_flow.specs.Flow.{ends, executes, accepted, took};
+ghost use Rattle.uartboot_flow.specs.Flow.{ends, executes, afterAck, took};
 ghost use Rattle.uartboot_flow.specs.State.{state};
 ghost use Rattle.uartboot_flow.specs.Gives.{stateOf, EndsIn};
 use command::opcode::Opcode;
@@ -83,7 +83,7 @@ pub fn accept(
 ) -> Progress
     requires { ⌜ Carried opcode size (length (now work)) ⌝ }
     requires { ⌜ Fitting (length (now ram)) (length (now flash)) (length (now work)) ⌝ }
-    ensures { λ r. ⌜ stateOf r (memories (now (ram .exit)) (now (flash .exit)) (now (work .exit))) ≡ accepted reason (memories (now (ram .entry)) (now (flash .entry)) (now (work .entry))) opcode size ⌝ }
+    ensures { λ r. ⌜ stateOf r (memories (now (ram .exit)) (now (flash .exit)) (now (work .exit))) ≡ afterAck reason (memories (now (ram .entry)) (now (flash .entry)) (now (work .entry))) opcode size ⌝ }
 {
     if size == 0 {
         go(opcode, size, reason, ram, flash, work)

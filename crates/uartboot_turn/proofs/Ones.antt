@@ -5,7 +5,7 @@ use mathlib.Core.Path.{_≡_}
 use mathlib.Core.List.{List}
 use lib.ListN.{length, getD, set}
 use Rattle.machine.specs.Does.{sends}
-use Rattle.machine.specs.Steps.{Taken, Shown}
+use Rattle.machine.specs.Steps.{Taken, Sent}
 use Rattle.machine.proofs.Bulks.{take-one, send-one}
 use Rattle.memory.specs.Memories.{Memories}
 use Rattle.uartboot_flow.specs.declared.step.Step.{Step}
@@ -29,5 +29,5 @@ module _ (reason : ℕ) (m m′ : Memories) where
 
   pub sends-one : (step : Step) (b : ℕ) (t : State) → doesAt reason m step ≡ sends b t → (old : List ℕ) (j : ℕ) → j < length old → (p : Progress) →
       stateOf p m′ ≡ t → (r : Moved) → r ≡ record { step = p .step; reason = p .reason; count = 1 } →
-      Shown device (state step reason m) j old (r .count) (state (r .step) (r .reason) m′) (set old j b)
+      Sent device (state step reason m) j old (r .count) (state (r .step) (r .reason) m′) (set old j b)
   sends-one step b t e old j h p f r g = rw (g, f) (send-one does due old j _ _ b e h)

@@ -11,7 +11,7 @@ ghost use Rattle.uartboot_flow.specs.State.{state};
 use uartboot_answer::answer::send_answer;
 use uartboot_answer::host::took_crc_high;
 use uartboot_answer::host::took_crc_low;
-use uartboot_answer::host::took_go;
+use uartboot_answer::host::took_answer_go;
 use uartboot_flow::ask::Sending;
 use uartboot_flow::ask::Taking;
 use uartboot_flow::step::Moved;
@@ -59,7 +59,7 @@ pub fn take(
         Taking::Go(opcode, size) => {
             one(take_go(opcode, size, reason, input[i], ram, flash, work))
         }
-        Taking::AnswerGo(opcode, size) => one(took_go(opcode, size, reason, input[i])),
+        Taking::AnswerGo(opcode, size) => one(took_answer_go(opcode, size, reason, input[i])),
         Taking::HostCrcLow(opcode, size) => one(took_crc_low(opcode, size, reason, input[i])),
         Taking::HostCrcHigh(opcode, size, low) => {
             one(took_crc_high(opcode, size, low, reason, input[i], work))

@@ -41,8 +41,8 @@ enum-known-taking-4 c = search needs
 shared-slice-read-took-go : tie.Need-shared-slice-read-took-go
 shared-slice-read-took-go c = search needs
 
-took-go-requires : tie.Need-took-go-requires
-took-go-requires c κs = search needs
+took-answer-go-requires : tie.Need-took-answer-go-requires
+took-answer-go-requires c κs = search needs
 
 one-requires-3 : tie.Need-one-requires-3
 one-requires-3 c κs = search needs
@@ -102,7 +102,7 @@ returns-3 : tie.Need-returns-3
 returns-3 c = takes-one _ _ _ _ _ (c .before .before .before .before .before .before .before .before .before .before .before .before .before .taking3 .given .1) _ _ (c .before .before .before .before .before .before .before .before .before .before .before .before .before .before .before .before .before .before .before .pre .1) _ (c .before .before .before .before .before .before .before .take-go .ensures) _ (c .one2 .ensures)
 
 returns-4 : tie.Need-returns-4
-returns-4 c = takes-one _ _ _ _ _ (c .before .before .before .before .taking4 .given .1) _ _ (c .before .before .before .before .before .before .before .before .before .before .pre .1) _ (c .before .took-go .ensures .is _) _ (c .one3 .ensures)
+returns-4 c = takes-one _ _ _ _ _ (c .before .before .before .before .taking4 .given .1) _ _ (c .before .before .before .before .before .before .before .before .before .before .pre .1) _ (c .before .took-answer-go .ensures .is _) _ (c .one3 .ensures)
 
 returns-5 : tie.Need-returns-5
 returns-5 c = takes-one _ _ _ _ _ (c .before .before .before .before .taking5 .given .1) _ _ (c .before .before .before .before .before .before .before .before .before .before .pre .1) _ (c .before .took-crc-low .ensures .is _) _ (c .one4 .ensures)
@@ -129,7 +129,7 @@ take-spec =
     one-requires-2
     enum-known-taking-4
     shared-slice-read-took-go
-    took-go-requires
+    took-answer-go-requires
     one-requires-3
     enum-known-taking-5
     shared-slice-read-took-crc-low

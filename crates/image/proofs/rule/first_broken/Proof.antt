@@ -1,15 +1,12 @@
 -- `image::rule::first_broken`: each return by the tests that led there.
 -- Assumes nothing.
-use Prim.Native.Nat.{ℕ, _+_, _-_, _<_, _≤_}
-use mathlib.Core.Path.{_≡_, sym, ap, _∙_}
+use Prim.Native.Nat.{_+_, _-_, _<_, _≤_}
+use mathlib.Core.Path.{_≡_, sym, _∙_}
 use native.Mathlib.Omega.{arith}
-use lib.Dec.{eqb}
-use lib.ListN.{length, take, drop}
+use lib.ListN.{length}
 use borrow.Author.Needs.{needs}
 use borrow.Author.Tests.{le-leb, lt-leb, eq-eqb, ne-eqb, not-true, not-false}
-use Rattle.crc.specs.Rule.{rule32}
-use Rattle.crc.specs.Crc.{crcOf}
-use Rattle.image.specs.Header.{sizeAt, crcAt, headerLength}
+use Rattle.image.specs.Header.{sizeAt, headerLength}
 use Rattle.image.specs.Rule.{largestSize, firstBroken}
 use Rattle.image.proofs.rule.first_broken.Statement.{statement}
 use Rattle.image.proofs.rule.first_broken.Tie as tie

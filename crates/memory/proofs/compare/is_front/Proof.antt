@@ -1,4 +1,4 @@
--- `memory::compare::isFront`: the bytes from `i` on stand, or do not, as all of them do.
+-- `memory::compare::is_front`: the bytes from `i` on begin their part exactly if all of them do.
 -- Assumes nothing.
 use Prim.Native.Nat.{_-_}
 use mathlib.Core.Path.{_≡_, refl}

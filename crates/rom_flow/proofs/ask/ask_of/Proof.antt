@@ -1,71 +1,55 @@
+-- `rom_flow::ask::ask_of`: step by step.
+-- Assumes nothing.
 use mathlib.Core.Path.{refl}
 use borrow.Author.Needs.{needs}
 use Rattle.rom_flow.proofs.ask.ask_of.Statement.{statement}
 use Rattle.rom_flow.proofs.ask.ask_of.Tie as tie
-use Rattle.rom_flow.proofs.ask.ask_of.Reads as reads
-use Rattle.rom_flow.proofs.ask.ask_of.Lts as lts
 
--- src/ask.rt:34:55
 enum-told : tie.Need-enum-told
 enum-told c = search needs
 
--- src/ask.rt:36:22
 enum-known-step : tie.Need-enum-known-step
 enum-known-step c = search needs
 
--- src/ask.rt:37:23
 enum-known-step-2 : tie.Need-enum-known-step-2
 enum-known-step-2 c = search needs
 
--- src/ask.rt:38:24
 enum-known-step-3 : tie.Need-enum-known-step-3
 enum-known-step-3 c = search needs
 
--- src/ask.rt:39:23
 enum-known-step-4 : tie.Need-enum-known-step-4
 enum-known-step-4 c = search needs
 
--- src/ask.rt:40:23
 enum-known-step-5 : tie.Need-enum-known-step-5
 enum-known-step-5 c = search needs
 
--- src/ask.rt:41:55
 enum-told-2 : tie.Need-enum-told-2
 enum-told-2 c = search needs
 
--- src/ask.rt:42:29
 enum-told-3 : tie.Need-enum-told-3
 enum-told-3 c = search needs
 
--- src/ask.rt:29:1
 returns : tie.Need-returns
 returns c = rw (c .enum-told .given .1) (record { is = λ kind reason ram. refl })
 
--- src/ask.rt:29:1
 returns-2 : tie.Need-returns-2
 returns-2 c = search needs
 
--- src/ask.rt:29:1
 returns-3 : tie.Need-returns-3
 returns-3 c = rw (c .before .step2 .given .1) (record { is = λ kind reason ram. refl })
 
--- src/ask.rt:29:1
 returns-4 : tie.Need-returns-4
 returns-4 c = search needs
 
--- src/ask.rt:29:1
 returns-5 : tie.Need-returns-5
 returns-5 c = search needs
 
--- src/ask.rt:29:1
 returns-6 : tie.Need-returns-6
 returns-6 c = search needs
 
--- src/ask.rt:29:1
 returns-7 : tie.Need-returns-7
 returns-7 c = rw (c .enum-told2 .given .1) (record { is = λ kind reason ram. refl })
 
--- src/ask.rt:29:1
 returns-8 : tie.Need-returns-8
 returns-8 c = rw (c .enum-told3 .given .1) (record { is = λ kind reason ram. refl })
 

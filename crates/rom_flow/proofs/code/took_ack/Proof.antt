@@ -1,10 +1,9 @@
+-- `rom_flow::code::took_ack`: by the test.
+-- Assumes nothing.
 use borrow.Author.Tests.{eq-eqb, ne-eqb}
 use borrow.Author.Needs.{needs}
 use Rattle.rom_flow.proofs.code.took_ack.Statement.{statement}
 use Rattle.rom_flow.proofs.code.took_ack.Tie as tie
-use Rattle.rom_flow.proofs.code.took_ack.Reads as reads
-use Rattle.rom_flow.proofs.code.took_ack.Lts as lts
-use Rattle.rom_flow.proofs.step.to.Reads as to-reads
 
 to-requires : tie.Need-to-requires
 to-requires c κs = search needs

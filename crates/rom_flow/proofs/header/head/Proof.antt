@@ -1,11 +1,9 @@
+-- `rom_flow::header::head`: by the test.
+-- Assumes nothing.
 use borrow.Author.Tests.{eq-eqb, ne-eqb}
 use borrow.Author.Needs.{needs}
 use Rattle.rom_flow.proofs.header.head.Statement.{statement}
 use Rattle.rom_flow.proofs.header.head.Tie as tie
-use Rattle.rom_flow.proofs.header.head.Reads as reads
-use Rattle.rom_flow.proofs.header.head.Lts as lts
-use Rattle.rom_flow.proofs.header.judge.Reads as judge-reads
-use Rattle.rom_flow.proofs.header.zero_length.Reads as zero-length-reads
 
 zero-length-requires : tie.Need-zero-length-requires
 zero-length-requires c κs = search needs

@@ -1,10 +1,9 @@
+-- `rom_flow::header::judge`: by the test.
+-- Assumes nothing.
 use borrow.Author.Tests.{le-leb, lt-leb}
 use borrow.Author.Needs.{needs}
 use Rattle.rom_flow.proofs.header.judge.Statement.{statement}
 use Rattle.rom_flow.proofs.header.judge.Tie as tie
-use Rattle.rom_flow.proofs.header.judge.Reads as reads
-use Rattle.rom_flow.proofs.header.judge.Lts as lts
-use Rattle.rom_flow.proofs.step.to.Reads as to-reads
 
 cast-t7 : tie.Need-cast-t7
 cast-t7 c = search needs

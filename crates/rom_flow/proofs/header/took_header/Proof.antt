@@ -1,13 +1,9 @@
+-- `rom_flow::header::took_header`: step by step.
+-- Assumes nothing.
 use borrow.Author.Tests.{eq-eqb, ne-eqb}
 use borrow.Author.Needs.{needs}
 use Rattle.rom_flow.proofs.header.took_header.Statement.{statement}
 use Rattle.rom_flow.proofs.header.took_header.Tie as tie
-use Rattle.rom_flow.proofs.header.took_header.Reads as reads
-use Rattle.rom_flow.proofs.header.took_header.Lts as lts
-use Rattle.rom_flow.proofs.header.head.Reads as head-reads
-use Rattle.rom_flow.proofs.header.judge.Reads as judge-reads
-use Rattle.rom_flow.proofs.step.to.Reads as to-reads
-use Rattle.wire.proofs.number.pair.Reads as pair-reads
 
 enum-told : tie.Need-enum-told
 enum-told c = search needs

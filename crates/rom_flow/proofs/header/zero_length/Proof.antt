@@ -1,9 +1,8 @@
+-- `rom_flow::header::zero_length`: by the kind.
+-- Assumes nothing.
 use borrow.Author.Needs.{needs}
 use Rattle.rom_flow.proofs.header.zero_length.Statement.{statement}
 use Rattle.rom_flow.proofs.header.zero_length.Tie as tie
-use Rattle.rom_flow.proofs.header.zero_length.Reads as reads
-use Rattle.rom_flow.proofs.header.zero_length.Lts as lts
-use Rattle.rom_flow.proofs.step.to.Reads as to-reads
 
 enum-told : tie.Need-enum-told
 enum-told c = search needs

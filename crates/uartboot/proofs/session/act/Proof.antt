@@ -1,7 +1,7 @@
 -- `uartboot::session::act`: each turn of the loop is takes or sends of the machine, and where it returns the machine has stopped.
 -- Assumes nothing.
 use Rattle.memory.specs.Memories.{memories}
-use Rattle.uartboot.proofs.Turns.{At, begins, ready-to-take, taken, hungry, ready-to-send, shown, choked, halts}
+use Rattle.uartboot.proofs.Turns.{At, begins, ready-to-take, taken, hungry, ready-to-send, sent, choked, halts}
 use Rattle.uartboot_flow.proofs.Laws.{held}
 use Rattle.uartboot_flow.specs.Due.{due}
 use Rattle.uartboot_flow.specs.Flow.{does}
@@ -83,13 +83,13 @@ send-requires : tie.Need-send-requires Inv-loop μ-loop
 send-requires c κs = (ready-to-send (c .before .before .before .before .before .before .before .before .before .loop .inv) _ (c .before .before .before .before .before .before .before .before .ask-of .ensures) _ (c .before .before .before .before .before .before .sending .given .1), c .before .before .before .before .if2 .left)
 
 advance-requires-2 : tie.Need-advance-requires-2 Inv-loop μ-loop
-advance-requires-2 c κs = sent-fits does due (held _ Any) (c .before .before .before .before .before .before .before .before .before .before .before .before .before .before .before .before .before .before .loop .inv) (shown (c .before .before .before .before .before .before .before .before .before .before .before .before .before .before .before .before .before .before .loop .inv) _ (c .before .before .before .before .before .before .before .before .before .before .before .before .before .before .before .before .before .ask-of .ensures) _ (c .before .before .before .before .before .before .before .before .before .before .before .before .before .before .before .sending .given .1) (c .before .before .before .before .before .before .before .before .send .ensures))
+advance-requires-2 c κs = sent-fits does due (held _ Any) (c .before .before .before .before .before .before .before .before .before .before .before .before .before .before .before .before .before .before .loop .inv) (sent (c .before .before .before .before .before .before .before .before .before .before .before .before .before .before .before .before .before .before .loop .inv) _ (c .before .before .before .before .before .before .before .before .before .before .before .before .before .before .before .before .before .ask-of .ensures) _ (c .before .before .before .before .before .before .before .before .before .before .before .before .before .before .before .sending .given .1) (c .before .before .before .before .before .before .before .before .send .ensures))
 
 loop-less-2 : tie.Need-loop-less-2 Inv-loop μ-loop
-loop-less-2 c = rw (c .advance2 .ensures) (sent-less does due (held _ Any) (c .before .before .before .before .before .before .before .before .before .before .before .before .before .before .before .before .before .before .before .loop .inv) (shown (c .before .before .before .before .before .before .before .before .before .before .before .before .before .before .before .before .before .before .before .loop .inv) _ (c .before .before .before .before .before .before .before .before .before .before .before .before .before .before .before .before .before .before .ask-of .ensures) _ (c .before .before .before .before .before .before .before .before .before .before .before .before .before .before .before .before .sending .given .1) (c .before .before .before .before .before .before .before .before .before .send .ensures)))
+loop-less-2 c = rw (c .advance2 .ensures) (sent-less does due (held _ Any) (c .before .before .before .before .before .before .before .before .before .before .before .before .before .before .before .before .before .before .before .loop .inv) (sent (c .before .before .before .before .before .before .before .before .before .before .before .before .before .before .before .before .before .before .before .loop .inv) _ (c .before .before .before .before .before .before .before .before .before .before .before .before .before .before .before .before .before .before .ask-of .ensures) _ (c .before .before .before .before .before .before .before .before .before .before .before .before .before .before .before .before .sending .given .1) (c .before .before .before .before .before .before .before .before .before .send .ensures)))
 
 loop-again-2 : tie.Need-loop-again-2 Inv-loop μ-loop
-loop-again-2 c = rw (c .advance2 .ensures) (sent-turn does due (held _ Any) (c .before .before .before .before .before .before .before .before .before .before .before .before .before .before .before .before .before .before .before .loop .inv) (shown (c .before .before .before .before .before .before .before .before .before .before .before .before .before .before .before .before .before .before .before .loop .inv) _ (c .before .before .before .before .before .before .before .before .before .before .before .before .before .before .before .before .before .before .ask-of .ensures) _ (c .before .before .before .before .before .before .before .before .before .before .before .before .before .before .before .before .sending .given .1) (c .before .before .before .before .before .before .before .before .before .send .ensures)))
+loop-again-2 c = rw (c .advance2 .ensures) (sent-turn does due (held _ Any) (c .before .before .before .before .before .before .before .before .before .before .before .before .before .before .before .before .before .before .before .loop .inv) (sent (c .before .before .before .before .before .before .before .before .before .before .before .before .before .before .before .before .before .before .before .loop .inv) _ (c .before .before .before .before .before .before .before .before .before .before .before .before .before .before .before .before .before .before .ask-of .ensures) _ (c .before .before .before .before .before .before .before .before .before .before .before .before .before .before .before .before .sending .given .1) (c .before .before .before .before .before .before .before .before .before .send .ensures)))
 
 enum-told : tie.Need-enum-told Inv-loop μ-loop
 enum-told c = search needs

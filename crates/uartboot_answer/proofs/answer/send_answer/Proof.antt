@@ -2,10 +2,8 @@
 -- Assumes nothing.
 use lib.Seq.{length-take-le}
 use native.Mathlib.Omega.{arith}
-use mathlib.Core.Path.{sym, ap}
-use Rattle.memory.specs.Memories.{memories}
-use Rattle.uartboot_flow.specs.State.{state}
-use Rattle.uartboot_answer.proofs.Answers.{shown-few, answer-shown}
+use mathlib.Core.Path.{sym}
+use Rattle.uartboot_answer.proofs.Answers.{shown-few, answer-sent}
 use borrow.Author.Needs.{needs}
 use Rattle.uartboot_answer.proofs.answer.send_answer.Statement.{statement}
 use Rattle.uartboot_answer.proofs.answer.send_answer.Tie as tie
@@ -36,7 +34,7 @@ returns c =
     let base = c .before .before .before .before .before .before .before .before in
     record {
       is = λ ram flash.
-          answer-shown _ _ _ ram flash _ _ _ _ _ _ (base .pre .0) (base .pre .1) (base .pre .2) (c .before .before .before .copy-up-to .ensures) _ (c .showed .ensures);
+          answer-sent _ _ _ ram flash _ _ _ _ _ _ (base .pre .0) (base .pre .1) (base .pre .2) (c .before .before .before .copy-up-to .ensures) _ (c .showed .ensures);
     }
 
 pub send-answer-spec : {M : Type 1} → statement M

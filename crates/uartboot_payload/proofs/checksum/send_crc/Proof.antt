@@ -1,6 +1,6 @@
 -- `uartboot_payload::checksum::send_crc`: one store is one send, two stores are two.
 -- Assumes nothing.
-use Rattle.uartboot_payload.proofs.Checksums.{low-shown, crc-shown}
+use Rattle.uartboot_payload.proofs.Checksums.{low-sent, crc-sent}
 use Rattle.wire.specs.Number.{lowByte, highByte}
 use lib.ListN.{length, length-set}
 use mathlib.Core.Path.{_∙_, ap}
@@ -31,7 +31,7 @@ same-length c = search needs
 returns : tie.Need-returns
 returns c =
     record {
-      is = λ ram flash. low-shown _ _ _ _ _ _ _ (c .before .low-byte .ensures ∙ ap lowByte (c .before .before .crc-of .ensures)) (c .before .before .before .before .before .pre .1);
+      is = λ ram flash. low-sent _ _ _ _ _ _ _ (c .before .low-byte .ensures ∙ ap lowByte (c .before .before .crc-of .ensures)) (c .before .before .before .before .before .pre .1);
     }
 
 cast-high-byte : tie.Need-cast-high-byte
@@ -51,7 +51,7 @@ returns-2 c =
     let base = c .before .before .before .before .before .before in
     let crc = c .before .before .before .crc-of .ensures in
     let room : base .args .j + 1 < length (base .args .reply .now) = omega (arith, simp length-set at (c .before .if1 .left)) in
-    record { is = λ ram flash. crc-shown _ _ _ _ _ _ _ _ (c .before .before .low-byte .ensures ∙ ap lowByte crc) (c .high-byte .ensures ∙ ap highByte crc) room }
+    record { is = λ ram flash. crc-sent _ _ _ _ _ _ _ _ (c .before .before .low-byte .ensures ∙ ap lowByte crc) (c .high-byte .ensures ∙ ap highByte crc) room }
 
 pub send-crc-spec : {M : Type 1} → statement M
 send-crc-spec =

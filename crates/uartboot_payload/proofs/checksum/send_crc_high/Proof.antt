@@ -1,6 +1,6 @@
 -- `uartboot_payload::checksum::send_crc_high`: one store is one send.
 -- Assumes nothing.
-use Rattle.uartboot_payload.proofs.Checksums.{high-shown}
+use Rattle.uartboot_payload.proofs.Checksums.{high-sent}
 use Rattle.wire.specs.Number.{highByte}
 use mathlib.Core.Path.{_∙_, ap}
 use borrow.Author.Needs.{needs}
@@ -23,7 +23,7 @@ same-length : tie.Need-same-length
 same-length c = search needs
 
 returns : tie.Need-returns
-returns c = record { is = λ ram flash. high-shown _ _ _ _ _ _ _ (c .high-byte .ensures ∙ ap highByte (c .before .crc-of .ensures)) (c .before .before .before .before .pre .1) }
+returns c = record { is = λ ram flash. high-sent _ _ _ _ _ _ _ (c .high-byte .ensures ∙ ap highByte (c .before .crc-of .ensures)) (c .before .before .before .before .pre .1) }
 
 pub send-crc-high-spec : {M : Type 1} → statement M
 send-crc-high-spec =

@@ -1,9 +1,9 @@
--- `uartboot_answer::host::took_go`: by the test.
+-- `uartboot_answer::host::took_answer_go`: by the test.
 -- Assumes nothing.
 use borrow.Author.Tests.{eq-eqb, ne-eqb}
 use borrow.Author.Needs.{needs}
-use Rattle.uartboot_answer.proofs.host.took_go.Statement.{statement}
-use Rattle.uartboot_answer.proofs.host.took_go.Tie as tie
+use Rattle.uartboot_answer.proofs.host.took_answer_go.Statement.{statement}
+use Rattle.uartboot_answer.proofs.host.took_answer_go.Tie as tie
 
 to-requires : tie.Need-to-requires
 to-requires c κs = search needs
