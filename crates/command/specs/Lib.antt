@@ -1,4 +1,3 @@
-pub mod Opcode
 pub mod Payload
 pub mod Version
 pub mod Check

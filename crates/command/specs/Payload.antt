@@ -5,14 +5,14 @@ use mathlib.Core.Path.{_≡_}
 use mathlib.Core.Bool.{true}
 use mathlib.Core.List.{List}
 use lib.ListN.{getD}
-use Rattle.wire.specs.Number.{numberAt}
+use Rattle.numbers.specs.Number.{numberAt}
 use Rattle.wire.specs.declared.unit.RamAddress.{RamAddress}
 use Rattle.wire.specs.declared.unit.FlashOffset.{FlashOffset}
-use Rattle.command.specs.declared.opcode.Opcode.{Opcode}
-use Rattle.command.specs.declared.opcode.Opcode.the-variants.{Write, Read, Copy, Erase, Run, ReadQspi, Version, ChipErase, DirectWrite}
+use Rattle.opcodes.specs.declared.Opcode.{Opcode}
+use Rattle.opcodes.specs.declared.Opcode.the-variants.{Write, Read, Copy, Erase, Run, ReadQspi, Version, ChipErase, DirectWrite}
 use Rattle.command.specs.declared.payload.Command.{Command}
 use Rattle.command.specs.declared.payload.Command.the-variants as command
-use Rattle.command.specs.Opcode.{hasLength, dataPlace}
+use Rattle.opcodes.specs.Opcode.{hasLength, dataPlace}
 
 abbrev pub addressAt : (place : ℕ) (work : List ℕ) → RamAddress
 addressAt place work = record { 0 = numberAt 4 work place }

@@ -1,5 +1,4 @@
-// uartboot's commands: their opcodes, what a payload says, and the checks.
+// uartboot's commands: what a payload says, and the checks.
 pub mod check;
-pub mod opcode;
 pub mod payload;
 pub mod version;

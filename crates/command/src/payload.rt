@@ -2,12 +2,12 @@
 ghost use mathlib.Core.Path.{_≡_};
 ghost use Prim.Native.Nat.{_+_, _≤_};
 ghost use lib.ListN.{length};
-ghost use Rattle.wire.specs.Number.{numberAt};
+ghost use Rattle.numbers.specs.Number.{numberAt};
 ghost use Rattle.command.specs.Payload.{addressAt, offsetAt, commandOf, Carried};
-use crate::opcode::Opcode;
-use crate::opcode::data_place;
-use wire::number::number16_at;
-use wire::number::number32_at;
+use numbers::number16_at;
+use numbers::number32_at;
+use opcodes::Opcode;
+use opcodes::data_place;
 use wire::unit::FlashOffset;
 use wire::unit::RamAddress;
 

@@ -5,11 +5,11 @@ use mathlib.Core.Path.{_≡_}
 use mathlib.Core.Bool.{true}
 use mathlib.Core.List.{List}
 use native.Mathlib.Omega.{arith}
-use Rattle.command.specs.declared.opcode.Opcode.{Opcode}
-use Rattle.command.specs.declared.opcode.Opcode.the-variants.{Write, Read, Copy, Erase, Run, ReadQspi, Version, ChipErase, DirectWrite}
-use Rattle.command.specs.Opcode.{hasLength}
+use Rattle.opcodes.specs.declared.Opcode.{Opcode}
+use Rattle.opcodes.specs.declared.Opcode.the-variants.{Write, Read, Copy, Erase, Run, ReadQspi, Version, ChipErase, DirectWrite}
+use Rattle.opcodes.specs.Opcode.{hasLength}
 use Rattle.command.specs.Payload.{commandOf}
-use Rattle.command.proofs.Opcodes.{never-shorter}
+use Rattle.opcodes.proofs.Opcodes.{never-shorter}
 use Rattle.command_execution.specs.Execution.{dataEnd}
 
 pub data-end-in : (opcode : Opcode) (count : ℕ) (work : List ℕ) → hasLength opcode count ≡ true

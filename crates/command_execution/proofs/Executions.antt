@@ -16,11 +16,11 @@ use Rattle.memory.specs.Flash.{burnt, Area}
 use Rattle.memory.specs.Compare.{isFront}
 use Rattle.memory.proofs.Stores.{changed-length, laid-length, part-length}
 use Rattle.memory.proofs.Flashes.{burnt-length, erased-length}
-use Rattle.command.specs.declared.opcode.Opcode.{Opcode}
-use Rattle.command.specs.declared.opcode.Opcode.the-variants.{Write, Read, Copy, Erase, Run, ReadQspi, Version, ChipErase, DirectWrite}
+use Rattle.opcodes.specs.declared.Opcode.{Opcode}
+use Rattle.opcodes.specs.declared.Opcode.the-variants.{Write, Read, Copy, Erase, Run, ReadQspi, Version, ChipErase, DirectWrite}
 use Rattle.command.specs.declared.payload.Command.{Command}
 use Rattle.command.specs.declared.payload.Command.the-variants as command
-use Rattle.command.specs.Opcode.{hasAnswer, dataPlace, isRun}
+use Rattle.opcodes.specs.Opcode.{hasAnswer, dataPlace, isRun}
 use Rattle.command.specs.Payload.{offsetAt, commandOf}
 use Rattle.command.specs.Version.{version}
 use Rattle.command.specs.Check.{checksOf}

@@ -11,11 +11,11 @@ use Rattle.wire.specs.declared.unit.RamAddress.{RamAddress}
 use Rattle.memory.specs.Store.{laid, changedFrom, partOf}
 use Rattle.memory.specs.Flash.{burnt, blank, erased}
 use Rattle.memory.specs.Compare.{isFront}
-use Rattle.command.specs.declared.opcode.Opcode.{Opcode}
-use Rattle.command.specs.declared.opcode.Opcode.the-variants as op
+use Rattle.opcodes.specs.declared.Opcode.{Opcode}
+use Rattle.opcodes.specs.declared.Opcode.the-variants as op
 use Rattle.command.specs.declared.payload.Command.{Command}
 use Rattle.command.specs.declared.payload.Command.the-variants.{Write, Read, Copy, Erase, Run, ReadQspi, Version, ChipErase, DirectWrite}
-use Rattle.command.specs.Opcode.{hasAnswer, dataPlace}
+use Rattle.opcodes.specs.Opcode.{hasAnswer, dataPlace}
 use Rattle.command.specs.Payload.{commandOf}
 use Rattle.command.specs.Version.{version}
 use Rattle.command.specs.Check.{checksOf, judged}

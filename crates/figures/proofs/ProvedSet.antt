@@ -1,13 +1,13 @@
 -- The proved set holds, by computation of the definitions.
 -- Assumes nothing.
 use mathlib.Core.Path.{refl}
-use Rattle.wire.specs.Number.{numberAt}
+use Rattle.numbers.specs.Number.{numberAt}
 use Rattle.wire.specs.Range.{liesIn}
 use Rattle.wire.specs.Length.{isFlashLength}
 use Rattle.crc.specs.Register.{leaving, moved, placed, afterBit, afterBits, afterByte, after}
 use Rattle.crc.specs.Crc.{crcOf}
 use Rattle.memory.specs.Flash.{erased}
-use Rattle.command.specs.Opcode.{opcodeOf}
+use Rattle.opcodes.specs.Opcode.{opcodeOf}
 use Rattle.command.specs.Check.{judged}
 use Rattle.command_execution.specs.Execution.{executed}
 use Rattle.version.specs.Text.{isNumber, wellFormed}

@@ -20,7 +20,7 @@ use Rattle.rom_flow.specs.Receiver.{receiver}
 use Rattle.rom_flow.specs.Fresh.{fresh}
 use Rattle.rom_record.specs.Record.{written}
 use Rattle.memory.specs.Flash.{burnt, blank}
-use Rattle.command.specs.declared.opcode.Opcode.the-variants.{Erase}
+use Rattle.opcodes.specs.declared.Opcode.the-variants.{Erase}
 use Rattle.command_execution.specs.declared.Ending.the-variants.{Silent}
 use Rattle.memory.specs.Memories.{Memories, memories}
 use Rattle.command_execution.specs.Execution.{executed}

@@ -12,8 +12,8 @@ use lib.ListN.{length, drop, length-append}
 use lib.Seq.{take-append-seam}
 use borrow.Author.Tests.{leb-true, leb-false, eqb-false, ltb-false, lt-ltb, le-ltb, le-leb, ne-eqb}
 use borrow.Table.Steps.{cases}
-use Rattle.wire.specs.Number.{bytesOf}
-use Rattle.wire.proofs.Numbers.{bytes-number}
+use Rattle.numbers.specs.Number.{bytesOf}
+use Rattle.numbers.proofs.Numbers.{bytes-number}
 use Rattle.memory.specs.Store.{laid}
 use Rattle.memory.proofs.Stores.{laid-next}
 use Rattle.machine.specs.Does.{Does, takes, sends, runs, needOf, tookOf, sentOf, byteOf}

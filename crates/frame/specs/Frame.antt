@@ -9,7 +9,7 @@ use Rattle.memory.specs.Store.{laid}
 use Rattle.rom_flow.specs.declared.kind.Kind.{Kind}
 use Rattle.rom_flow.specs.declared.kind.Kind.the-variants.{P, E}
 use Rattle.wire.specs.Line.{soh, ack}
-use Rattle.wire.specs.Number.{bytesOf}
+use Rattle.numbers.specs.Number.{bytesOf}
 use Rattle.rom_flow.specs.Flow.{firstExtended}
 use Rattle.frame.specs.declared.Framed.{Framed}
 

@@ -5,11 +5,11 @@ ghost use lib.ListN.{length};
 ghost use Rattle.memory.specs.Store.{laid};
 ghost use Rattle.frame.specs.Frame.{longest, isExtended, headerOf, frameOf, refused, written, framedOf};
 use memory::store::lay;
-use rom_flow::header::FIRST_EXTENDED;
+use numbers::put::put16;
+use rom_flow::kind::FIRST_EXTENDED;
 use rom_flow::kind::Kind;
 use wire::line::ACK;
 use wire::line::SOH;
-use wire::put::put16;
 
 // The number given where there is no code.
 pub const EMPTY_CODE: u32 = 41;

@@ -8,7 +8,7 @@ use lib.ListN.{length, replicate}
 use lib.Seq.{sets}
 use borrow.Author.Tests.{eqb-true}
 use borrow.Rule.Slice.PartMut.{midOf, putMid}
-use Rattle.wire.specs.Number.{bytesOf}
+use Rattle.numbers.specs.Number.{bytesOf}
 use Rattle.wire.proofs.Tests.{both-true}
 use Rattle.memory.specs.Store.{laid}
 use Rattle.version.specs.Text.{fieldLength, wellFormed}

@@ -10,9 +10,9 @@ use lib.ListN.{length, drop, getD, length-append, replicate}
 use lib.Seq.{getD-append-seam, getD-append-add, drop-append-add, take-at, take-append-seam}
 use borrow.Author.Tests.{le-leb, eq-eqb, eqb-false, ltb-false}
 use borrow.Table.Steps.{cases}
-use Rattle.wire.specs.Number.{bytesOf, numberAt}
+use Rattle.numbers.specs.Number.{bytesOf, numberAt}
 use Rattle.wire.specs.Range.{liesIn}
-use Rattle.wire.proofs.Numbers.{bytes-number}
+use Rattle.numbers.proofs.Numbers.{bytes-number}
 use Rattle.crc.specs.Rule.{rule32}
 use Rattle.crc.specs.Crc.{crcOf}
 use Rattle.version.specs.Text.{fieldLength, wellFormed}

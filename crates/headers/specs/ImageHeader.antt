@@ -5,7 +5,7 @@ use mathlib.Core.List.{List, _∷_, _++_}
 use mathlib.Core.Bool.{cond, not}
 use lib.Dec.{eqb, ltb}
 use lib.ListN.{length, replicate}
-use Rattle.wire.specs.Number.{bytesOf}
+use Rattle.numbers.specs.Number.{bytesOf}
 use Rattle.crc.specs.Rule.{rule32}
 use Rattle.crc.specs.Crc.{crcOf}
 use Rattle.version.specs.Text.{wellFormed}

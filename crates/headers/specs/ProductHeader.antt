@@ -2,7 +2,7 @@
 -- Assumes nothing.
 use Prim.Native.Nat.{ℕ}
 use mathlib.Core.List.{_∷_, _++_}
-use Rattle.wire.specs.Number.{bytesOf}
+use Rattle.numbers.specs.Number.{bytesOf}
 use Rattle.headers.specs.declared.ProductHeader.{ProductHeader}
 
 abbrev pub productHeaderOf : (first second : ℕ) → ProductHeader

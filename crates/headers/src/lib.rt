@@ -11,11 +11,11 @@ use image::rule::IMAGE_MARK;
 use image::rule::LARGEST;
 use image::rule::VALID_FLAG;
 use memory::store::lay;
+use numbers::put::put32;
 use slot::product::PRODUCT;
 use slot::product::PRODUCT_MARK;
 use version::rank::MALFORMED;
 use version::rank::rank;
-use wire::put::put32;
 
 // The number given where there is no code.
 pub const EMPTY_CODE: u32 = 41;

@@ -7,7 +7,7 @@ use mathlib.Core.List.{List}
 use mathlib.Core.Bool.{Bool, _&&_}
 use lib.Dec.{eqb}
 use lib.ListN.{getD, take, drop}
-use Rattle.wire.specs.Number.{numberAt}
+use Rattle.numbers.specs.Number.{numberAt}
 
 -- a mark: 70, and a second byte that tells an image header, 51, from a product header, 52
 abbrev pub isMarked : (memory : List ℕ) (offset second : ℕ) → Bool

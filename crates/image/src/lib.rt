@@ -9,7 +9,7 @@ ghost use Rattle.image.specs.Header.{isMarked, versionPlace, versionLeng
 ghost use Rattle.image.specs.Valid.{imageAt};
 use crate::rule::first_broken;
 use crate::rule::number_of;
-use wire::number::number32_at;
+use numbers::number32_at;
 use wire::range::Place;
 use wire::range::place_in;
 

@@ -7,7 +7,7 @@ ghost use Rattle.image.specs.Rule.{ruleNumber, firstBroken};
 use crate::HEADER;
 use crate::is_marked;
 use crc::crc32::crc_of;
-use wire::number::number32_at;
+use numbers::number32_at;
 
 // The mark of an image header is 70 and this byte.
 pub const IMAGE_MARK: u8 = 0x51;

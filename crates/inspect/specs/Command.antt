@@ -5,11 +5,11 @@ use mathlib.Core.List.{List}
 use mathlib.Core.Bool.{cond, not}
 use lib.Dec.{ltb}
 use lib.ListN.{length}
-use Rattle.command.specs.declared.opcode.Lookup.{Lookup}
-use Rattle.command.specs.declared.opcode.Lookup.the-variants.{Known, Unknown}
+use Rattle.opcodes.specs.declared.Lookup.{Lookup}
+use Rattle.opcodes.specs.declared.Lookup.the-variants.{Known, Unknown}
 use Rattle.command.specs.declared.payload.Command.{Command}
 use Rattle.command.specs.declared.payload.Command.the-variants.{Write, Read, Copy, Erase, Run, ReadQspi, Version, ChipErase, DirectWrite}
-use Rattle.command.specs.Opcode.{unknownOpcode, badLength, opcodeOf, hasLength}
+use Rattle.opcodes.specs.Opcode.{unknownOpcode, badLength, opcodeOf, hasLength}
 use Rattle.command.specs.Payload.{commandOf}
 use Rattle.inspect.specs.declared.payload.CommandRead.{CommandRead}
 

@@ -5,7 +5,7 @@ use image::HEADER;
 use image::rule::Rule;
 use image::rule::first_broken;
 use image::rule::number_of;
-use wire::number::number32_at;
+use numbers::number32_at;
 use wire::range::Place;
 use wire::range::place_in;
 

@@ -1,13 +1,13 @@
 // What a command's payload says.
 ghost use mathlib.Core.Path.{_≡_};
 ghost use Rattle.inspect.specs.Command.{refused, says, numbersOf, readCommand};
-use command::opcode::BAD_LENGTH;
-use command::opcode::Lookup;
-use command::opcode::UNKNOWN_OPCODE;
-use command::opcode::has_length;
-use command::opcode::opcode_of;
 use command::payload::Command;
 use command::payload::command_of;
+use opcodes::BAD_LENGTH;
+use opcodes::Lookup;
+use opcodes::UNKNOWN_OPCODE;
+use opcodes::has_length;
+use opcodes::opcode_of;
 
 // The longest payload whose length two bytes can say.
 const LONGEST: usize = 65_535;

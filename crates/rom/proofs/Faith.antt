@@ -9,7 +9,7 @@ use lib.ListN.{length, set}
 use Rattle.wire.specs.Bytes.{Byte}
 use Rattle.wire.specs.Length.{isRamLength}
 use Rattle.wire.specs.Line.{soh, ack}
-use Rattle.wire.specs.Number.{paired}
+use Rattle.numbers.specs.Number.{paired}
 use Rattle.wire.specs.Unit.{firstAddress}
 use Rattle.wire.proofs.Tests.{in-cond}
 use Rattle.machine.specs.Machine.{isRunning}

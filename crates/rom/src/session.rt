@@ -15,11 +15,11 @@ use rom_flow::ask::Ask;
 use rom_flow::ask::ask_of;
 use rom_flow::kind::Kind;
 use rom_flow::step::Step;
-use rom_flow::turn::send;
-use rom_flow::turn::take;
 use rom_record::Decoded;
 use rom_record::decode;
 use rom_record::encode;
+use rom_turn::send;
+use rom_turn::take;
 use wire::length::BAD_RAM;
 use wire::length::is_ram_length;
 

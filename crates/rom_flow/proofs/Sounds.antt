@@ -10,7 +10,7 @@ use lib.ListN.{length, set, length-set}
 use borrow.Author.Tests.{leb-true, ltb-true, eqb-false}
 use Rattle.wire.specs.Length.{isRamLength}
 use Rattle.wire.specs.Line.{soh, ack}
-use Rattle.wire.specs.Number.{paired}
+use Rattle.numbers.specs.Number.{paired}
 use Rattle.wire.specs.Unit.{ramBase, firstAddress}
 use Rattle.wire.proofs.Ranges.{lies-first}
 use Rattle.wire.proofs.Tests.{in-cond}

@@ -8,7 +8,7 @@ use lib.Bits.{bitXor}
 use lib.Dec.{eqb, leb, ltb}
 use lib.ListN.{length, take, set}
 use Rattle.wire.specs.Line.{stx, soh, ack, nak}
-use Rattle.wire.specs.Number.{paired}
+use Rattle.numbers.specs.Number.{paired}
 use Rattle.wire.specs.Unit.{firstAddress}
 use Rattle.machine.specs.Does.{Does, takes, sends, runs, tookOf}
 use Rattle.rom_flow.specs.declared.kind.Kind.{Kind}

@@ -10,6 +10,9 @@ pub enum Kind {
     E,
 }
 
+// The first length of kind E that is extended: 00 00, and two bytes of what the length is more than this.
+pub const FIRST_EXTENDED: usize = 65_536;
+
 // A receiver's session, by the number of its kind.
 pub struct Receiver {
     pub kind: u32,

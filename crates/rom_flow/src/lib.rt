@@ -1,7 +1,4 @@
-// The ROM's UART receiver, step by step: its kinds, what a step asks, and what it takes and sends.
+// The ROM's UART receiver, step by step: its kinds, and what a step asks.
 pub mod ask;
-pub mod code;
-pub mod header;
 pub mod kind;
 pub mod step;
-pub mod turn;

@@ -11,7 +11,7 @@ use Rattle.machine.specs.Session.{Result, accepted, resultOf}
 use Rattle.machine.specs.declared.Record.{Record}
 use Rattle.wire.specs.Bytes.{Word}
 use Rattle.wire.specs.Line.{ack, nak}
-use Rattle.wire.specs.Number.{numberAt}
+use Rattle.numbers.specs.Number.{numberAt}
 use Rattle.wire.specs.Range.{liesIn}
 use Rattle.wire.specs.Length.{isBetween, isFlashLength}
 use Rattle.wire.proofs.Bytes.{areBytes, are-bytes}
@@ -19,7 +19,7 @@ use Rattle.machine.specs.Lawful.{Every}
 use Rattle.machine.specs.Words.{wordsOf}
 use Rattle.rom_record.specs.Record as rom-record
 use Rattle.command.specs.Check.{judged}
-use Rattle.command.specs.Opcode.{opcodeOf}
+use Rattle.opcodes.specs.Opcode.{opcodeOf}
 use Rattle.command_execution.specs.Execution.{executed}
 use Rattle.uartboot_flow.specs.Fresh.{freshRecord}
 use Rattle.uartboot_record.specs.Record as device-record

@@ -4,13 +4,13 @@ use Prim.Native.Nat.{_+_}
 use mathlib.Core.Path.{refl}
 use mathlib.Core.List.{[]}
 use lib.ListN.{length}
-use Rattle.wire.specs.Number.{numberAt}
+use Rattle.numbers.specs.Number.{numberAt}
 use Rattle.wire.specs.Range.{liesIn}
 use Rattle.machine.specs.Outcome.{halt}
 use Rattle.machine.specs.History.{here, trace}
 use Rattle.machine.proofs.Paths.{traced}
 use Rattle.command.specs.Check.{judged}
-use Rattle.command.specs.Opcode.{opcodeOf}
+use Rattle.opcodes.specs.Opcode.{opcodeOf}
 use Rattle.uartboot_flow.specs.Fresh.{fresh}
 use Rattle.uartboot_flow.specs.Device.{device}
 use Rattle.sessions.specs.Naked.{historyOf, NakSpeaks}

@@ -11,8 +11,8 @@ use Rattle.machine.specs.Lawful.{Every}
 use Rattle.machine.specs.Session.{Result, sound, resultOf}
 use Rattle.machine.specs.Words.{wordsOf}
 use Rattle.machine.specs.declared.Record.{Record}
-use Rattle.command.specs.declared.opcode.Opcode.the-variants.{Erase}
-use Rattle.command.specs.Opcode.{opcodeNumber}
+use Rattle.opcodes.specs.declared.Opcode.the-variants.{Erase}
+use Rattle.opcodes.specs.Opcode.{opcodeNumber}
 use Rattle.memory.specs.Memories.{Memories, memories}
 use Rattle.uartboot_flow.specs.Flow.{greetingLength}
 use Rattle.uartboot_flow.specs.Fresh.{freshRecord}

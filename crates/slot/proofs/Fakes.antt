@@ -6,7 +6,7 @@ use mathlib.Core.Path.{_≡_, refl, sym, ap, _∙_}
 use mathlib.Core.List.{List, _∷_, _++_}
 use lib.ListN.{replicate}
 use Rattle.wire.specs.Bytes.{Bytes}
-use Rattle.wire.specs.Number.{numberAt}
+use Rattle.numbers.specs.Number.{numberAt}
 use Rattle.wire.specs.Range.{liesIn}
 use Rattle.wire.specs.Length.{isFlashLength}
 use Rattle.wire.proofs.Bytes.{are-bytes}

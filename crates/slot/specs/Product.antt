@@ -4,7 +4,7 @@ use Prim.Native.Nat.{ℕ, _+_}
 use mathlib.Core.List.{List}
 use mathlib.Core.Bool.{Bool, cond, not}
 use lib.ListN.{length}
-use Rattle.wire.specs.Number.{numberAt}
+use Rattle.numbers.specs.Number.{numberAt}
 use Rattle.wire.specs.Range.{liesIn}
 use Rattle.wire.specs.Length.{isFlashLength, badFlash}
 use Rattle.image.specs.Header.{isMarked}

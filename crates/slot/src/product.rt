@@ -2,9 +2,9 @@
 ghost use mathlib.Core.Path.{_≡_};
 ghost use Rattle.slot.specs.Product.{productAt};
 use image::is_marked;
+use numbers::number32_at;
 use wire::length::BAD_FLASH;
 use wire::length::is_flash_length;
-use wire::number::number32_at;
 use wire::range::Place;
 use wire::unit::FlashOffset;
 

@@ -8,17 +8,17 @@ use mathlib.Core.List.{List, [], _∷_}
 use lib.Dec.{eqb, ltb}
 use borrow.Author.Tests.{eqb-true}
 use Rattle.wire.specs.Line.{soh, ack}
-use Rattle.wire.specs.Number.{paired}
+use Rattle.numbers.specs.Number.{paired}
 use Rattle.wire.proofs.Tests.{in-cond}
 use Rattle.machine.specs.Machine.{isRunning}
 use Rattle.machine.specs.Does.{Does, takes, sends, runs, needOf}
 use Rattle.machine.specs.Acknowledged.{tookByte}
-use Rattle.command.specs.declared.opcode.Opcode.{Opcode}
-use Rattle.command.specs.declared.opcode.Lookup.{Lookup}
-use Rattle.command.specs.declared.opcode.Lookup.the-variants.{Known, Unknown}
-use Rattle.command.specs.Opcode.{opcodeOf, hasLength, isRun}
+use Rattle.opcodes.specs.declared.Opcode.{Opcode}
+use Rattle.opcodes.specs.declared.Lookup.{Lookup}
+use Rattle.opcodes.specs.declared.Lookup.the-variants.{Known, Unknown}
+use Rattle.opcodes.specs.Opcode.{opcodeOf, hasLength, isRun}
 use Rattle.command.specs.Payload.{commandOf}
-use Rattle.command.proofs.Opcodes.{bare-never-run}
+use Rattle.opcodes.proofs.Opcodes.{bare-never-run}
 use Rattle.command_execution.specs.declared.Ending.{Ending}
 use Rattle.command_execution.specs.declared.Ending.the-variants.{Silent, Answers, Runs, Failed}
 use Rattle.memory.specs.Memories.{Memories}

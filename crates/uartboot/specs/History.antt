@@ -8,7 +8,7 @@ use mathlib.Core.List.{List, [], _∷_}
 use Rattle.wire.specs.Line.{soh}
 use Rattle.machine.specs.History.{Event}
 use Rattle.machine.specs.Acknowledged.{tookByte}
-use Rattle.command.specs.Opcode.{isRun}
+use Rattle.opcodes.specs.Opcode.{isRun}
 use Rattle.memory.specs.Memories.{Memories}
 use Rattle.uartboot_flow.specs.declared.step.Step.{Step}
 use Rattle.uartboot_flow.specs.declared.step.Step.the-variants.{Greeting, Header, Command, Answer, Refusal, Running}

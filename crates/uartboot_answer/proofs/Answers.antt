@@ -11,7 +11,7 @@ use Rattle.memory.specs.Copy.{Copied}
 use Rattle.machine.specs.Does.{sends}
 use Rattle.machine.specs.Steps.{Sent}
 use Rattle.machine.proofs.Bulks.{bulk-sent}
-use Rattle.command.specs.declared.opcode.Opcode.{Opcode}
+use Rattle.opcodes.specs.declared.Opcode.{Opcode}
 use Rattle.memory.specs.Memories.{memories}
 use Rattle.uartboot_flow.specs.declared.step.Step.{Step}
 use Rattle.uartboot_flow.specs.declared.step.Step.the-variants.{Answer}

@@ -4,7 +4,8 @@ ghost use lib.ListN.{length};
 ghost use Rattle.uartboot_flow.specs.Flow.{took};
 ghost use Rattle.uartboot_flow.specs.State.{state};
 ghost use Rattle.uartboot_flow.specs.Gives.{Gives, EndsIn};
-use command::opcode::Opcode;
+use numbers::pair;
+use opcodes::Opcode;
 use uartboot_flow::checksum::crc_of;
 use uartboot_flow::reason::CRC_DIFFERS;
 use uartboot_flow::reason::NOT_ACKED;
@@ -13,7 +14,6 @@ use uartboot_flow::step::Progress;
 use uartboot_flow::step::Step;
 use uartboot_flow::step::to;
 use wire::line::ACK;
-use wire::number::pair;
 
 // The byte after an answer's length: only 06 lets the answer follow.
 pub fn took_answer_go(opcode: Opcode, size: u32, reason: u32, byte: u8) -> Progress

@@ -8,7 +8,7 @@ use lib.Dec.{eqb, ltb}
 use borrow.Author.Tests.{ltb-false}
 use Rattle.wire.proofs.Tests.{in-cond}
 use Rattle.machine.proofs.Doing.{Counted}
-use Rattle.command.specs.declared.opcode.Opcode.{Opcode}
+use Rattle.opcodes.specs.declared.Opcode.{Opcode}
 use Rattle.command_execution.specs.declared.Ending.{Ending}
 use Rattle.command_execution.specs.declared.Ending.the-variants.{Silent, Answers, Runs, Failed}
 use Rattle.memory.specs.Memories.{Memories}

@@ -9,14 +9,14 @@ use lib.Dec.{eqb, ltb}
 use lib.ListN.{length, length-set}
 use borrow.Author.Tests.{ltb-true, ltb-false, eqb-false, not-false}
 use Rattle.wire.specs.Line.{soh, ack}
-use Rattle.wire.specs.Number.{paired}
+use Rattle.numbers.specs.Number.{paired}
 use Rattle.wire.proofs.Tests.{in-cond}
 use Rattle.machine.specs.Does.{Does}
 use Rattle.machine.proofs.Doing.{Leaves}
-use Rattle.command.specs.declared.opcode.Opcode.{Opcode}
-use Rattle.command.specs.declared.opcode.Lookup.{Lookup}
-use Rattle.command.specs.declared.opcode.Lookup.the-variants.{Known, Unknown}
-use Rattle.command.specs.Opcode.{unknownOpcode, badLength, opcodeOf, hasLength}
+use Rattle.opcodes.specs.declared.Opcode.{Opcode}
+use Rattle.opcodes.specs.declared.Lookup.{Lookup}
+use Rattle.opcodes.specs.declared.Lookup.the-variants.{Known, Unknown}
+use Rattle.opcodes.specs.Opcode.{unknownOpcode, badLength, opcodeOf, hasLength}
 use Rattle.command.specs.Payload.{Carried, commandOf}
 use Rattle.command_execution.specs.declared.Ending.{Ending}
 use Rattle.command_execution.specs.declared.Ending.the-variants.{Silent, Answers, Runs, Failed}

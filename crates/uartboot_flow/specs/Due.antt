@@ -3,7 +3,7 @@
 use Prim.Native.Nat.{ℕ, suc, _-_}
 use mathlib.Core.Bool.{cond}
 use lib.Dec.{eqb}
-use Rattle.command.specs.declared.opcode.Opcode.{Opcode}
+use Rattle.opcodes.specs.declared.Opcode.{Opcode}
 use Rattle.command_execution.specs.declared.Ending.{Ending}
 use Rattle.command_execution.specs.declared.Ending.the-variants.{Silent, Answers, Runs, Failed}
 use Rattle.memory.specs.Memories.{Memories}

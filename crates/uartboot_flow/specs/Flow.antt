@@ -8,14 +8,14 @@ use mathlib.Core.List.{List}
 use lib.Dec.{eqb, ltb}
 use lib.ListN.{length, take, getD, set}
 use Rattle.wire.specs.Line.{soh, ack, nak}
-use Rattle.wire.specs.Number.{paired, lowByte, highByte}
+use Rattle.numbers.specs.Number.{paired, lowByte, highByte}
 use Rattle.crc.specs.Rule.{rule16}
 use Rattle.crc.specs.Crc.{crcOf}
 use Rattle.machine.specs.Does.{Does, takes, sends, runs, tookOf}
-use Rattle.command.specs.declared.opcode.Opcode.{Opcode}
-use Rattle.command.specs.declared.opcode.Lookup.{Lookup}
-use Rattle.command.specs.declared.opcode.Lookup.the-variants.{Known, Unknown}
-use Rattle.command.specs.Opcode.{unknownOpcode, badLength, opcodeOf, hasLength}
+use Rattle.opcodes.specs.declared.Opcode.{Opcode}
+use Rattle.opcodes.specs.declared.Lookup.{Lookup}
+use Rattle.opcodes.specs.declared.Lookup.the-variants.{Known, Unknown}
+use Rattle.opcodes.specs.Opcode.{unknownOpcode, badLength, opcodeOf, hasLength}
 use Rattle.command.specs.Payload.{commandOf}
 use Rattle.command_execution.specs.declared.Ending.{Ending}
 use Rattle.command_execution.specs.declared.Ending.the-variants.{Silent, Answers, Runs, Failed}

@@ -7,11 +7,11 @@ use crate::step::AnswerStep;
 use crate::step::CommandStep;
 use crate::step::HeaderStep;
 use crate::step::Step;
-use command::opcode::Opcode;
+use numbers::high_byte;
+use numbers::low_byte;
+use opcodes::Opcode;
 use wire::line::ACK;
 use wire::line::NAK;
-use wire::number::high_byte;
-use wire::number::low_byte;
 
 // A byte of a header; bytes of a payload, with its opcode and length and the next place; the byte on which the command is executed or
 // not; the byte after an answer's length; the low byte of the host's CRC, and the high one with the low one.

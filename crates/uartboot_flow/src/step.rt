@@ -1,7 +1,7 @@
 // Where the flow stands: groups of steps, and the steps of each group.
 ghost use mathlib.Core.Path.{_≡_};
 ghost use Rattle.uartboot_flow.specs.Gives.{progress};
-use command::opcode::Opcode;
+use opcodes::Opcode;
 use wire::unit::RamAddress;
 
 // The steps that take a header. What it has brought: the opcode's number, and the low byte of the length.

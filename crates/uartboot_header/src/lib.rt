@@ -3,15 +3,16 @@ ghost use mathlib.Core.Path.{_≡_};
 ghost use mathlib.Core.Bool.{true};
 ghost use lib.ListN.{length};
 ghost use Rattle.wire.specs.Length.{isWorkLength};
-ghost use Rattle.command.specs.Opcode.{opcodeOf};
+ghost use Rattle.opcodes.specs.Opcode.{opcodeOf};
 ghost use Rattle.uartboot_flow.specs.Flow.{headed, took};
 ghost use Rattle.uartboot_flow.specs.State.{state};
 ghost use Rattle.uartboot_flow.specs.Gives.{Gives};
-use command::opcode::BAD_LENGTH;
-use command::opcode::Lookup;
-use command::opcode::UNKNOWN_OPCODE;
-use command::opcode::has_length;
-use command::opcode::opcode_of;
+use numbers::pair;
+use opcodes::BAD_LENGTH;
+use opcodes::Lookup;
+use opcodes::UNKNOWN_OPCODE;
+use opcodes::has_length;
+use opcodes::opcode_of;
 use uartboot_flow::reason::LONG_PAYLOAD;
 use uartboot_flow::step::CommandStep;
 use uartboot_flow::step::HeaderStep;
@@ -19,7 +20,6 @@ use uartboot_flow::step::Progress;
 use uartboot_flow::step::Step;
 use uartboot_flow::step::to;
 use wire::line::SOH;
-use wire::number::pair;
 
 // Tests a header: its opcode, its length, and the length against the work buffer.
 fn head(opcode: u32, size: usize, reason: u32, work: &[u8]) -> Progress

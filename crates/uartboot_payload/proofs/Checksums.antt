@@ -5,12 +5,12 @@ use native.Mathlib.Omega.{arith}
 use mathlib.Core.Path.{_≡_, refl}
 use mathlib.Core.List.{List}
 use lib.ListN.{length, set}
-use Rattle.wire.specs.Number.{lowByte, highByte}
+use Rattle.numbers.specs.Number.{lowByte, highByte}
 use Rattle.machine.specs.Steps.{Sent}
 use Rattle.machine.specs.Steps as steps
 use Rattle.machine.proofs.Bulks.{send-one}
 use Rattle.machine.proofs.Repeats.{sends-length}
-use Rattle.command.specs.declared.opcode.Opcode.{Opcode}
+use Rattle.opcodes.specs.declared.Opcode.{Opcode}
 use Rattle.memory.specs.Memories.{Memories}
 use Rattle.uartboot_flow.specs.declared.step.Step.the-variants.{Command}
 use Rattle.uartboot_flow.specs.declared.step.CommandStep.the-variants.{SendCrcLow, SendCrcHigh, TakeGo}

@@ -9,7 +9,7 @@ use Rattle.memory.specs.Copy.{Copied}
 use Rattle.machine.specs.Does.{takes}
 use Rattle.machine.specs.Steps.{Taken}
 use Rattle.machine.proofs.Bulks.{bulk-taken}
-use Rattle.command.specs.declared.opcode.Opcode.{Opcode}
+use Rattle.opcodes.specs.declared.Opcode.{Opcode}
 use Rattle.memory.specs.Memories.{memories}
 use Rattle.uartboot_flow.specs.declared.step.Step.the-variants.{Command}
 use Rattle.uartboot_flow.specs.declared.step.CommandStep.the-variants.{TakePayload}

@@ -3,13 +3,13 @@ ghost use Prim.Native.Nat.{_≤_, _<_};
 ghost use lib.ListN.{length};
 ghost use Rattle.uartboot_flow.specs.State.{state};
 ghost use Rattle.uartboot_flow.specs.Gives.{SentFrom};
-use command::opcode::Opcode;
+use numbers::high_byte;
+use numbers::low_byte;
+use opcodes::Opcode;
 use uartboot_flow::checksum::crc_of;
 use uartboot_flow::step::CommandStep;
 use uartboot_flow::step::Moved;
 use uartboot_flow::step::Step;
-use wire::number::high_byte;
-use wire::number::low_byte;
 
 // Sends the low byte of the payload's CRC as reply byte j, and its high byte behind that where there is room.
 pub fn send_crc(

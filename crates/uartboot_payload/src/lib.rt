@@ -1,4 +1,3 @@
-// A command's payload: taken and checked, its CRC, and the execution that follows.
+// A command's payload: taken and checked, and its CRC.
 pub mod checksum;
-pub mod execution;
 pub mod payload;

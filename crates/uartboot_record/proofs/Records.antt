@@ -9,13 +9,13 @@ use borrow.Author.Tests.{not-false, eqb-true, eqb-false, ltb-true, ltb-false, ne
 use Rattle.wire.proofs.Tests.{in-cond}
 use Rattle.wire.specs.Unit.{isInRam}
 use Rattle.machine.specs.declared.Record.{Record}
-use Rattle.command.specs.declared.opcode.Opcode.{Opcode}
-use Rattle.command.specs.declared.opcode.Opcode.the-variants.{Run}
-use Rattle.command.specs.declared.opcode.Lookup.{Lookup}
-use Rattle.command.specs.declared.opcode.Lookup.the-variants.{Known, Unknown}
-use Rattle.command.specs.Opcode.{opcodeNumber, opcodeOf, hasLength, hasAnswer}
+use Rattle.opcodes.specs.declared.Opcode.{Opcode}
+use Rattle.opcodes.specs.declared.Opcode.the-variants.{Run}
+use Rattle.opcodes.specs.declared.Lookup.{Lookup}
+use Rattle.opcodes.specs.declared.Lookup.the-variants.{Known, Unknown}
+use Rattle.opcodes.specs.Opcode.{opcodeNumber, opcodeOf, hasLength, hasAnswer}
 use Rattle.command.specs.Payload.{Carried}
-use Rattle.command.proofs.Opcodes.{opcode-back}
+use Rattle.opcodes.proofs.Opcodes.{opcode-back}
 use Rattle.command_execution.specs.Execution.{Answering}
 use Rattle.uartboot_flow.specs.declared.step.Step.{Step}
 use Rattle.uartboot_flow.specs.declared.step.Step.the-variants.{Greeting, Header, Command, Answer, Refusal, Running}

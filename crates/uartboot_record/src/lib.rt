@@ -1,13 +1,13 @@
 // The record of a uartboot session: a step in numbers, and back.
 ghost use mathlib.Core.Path.{_≡_};
 ghost use Rattle.uartboot_record.specs.Record.{fields, headerNumbers, commandNumbers, answerNumbers, numbersOf, written, placesOf, plainStep, payloadStep, commandIn, answerStep, answerIn, runningIn, lastIn, phaseIn, stepIn, decodedOf};
-use command::opcode::Lookup;
-use command::opcode::Opcode;
-use command::opcode::has_answer;
-use command::opcode::has_length;
-use command::opcode::number_of;
-use command::opcode::opcode_of;
 use machine::Record;
+use opcodes::Lookup;
+use opcodes::Opcode;
+use opcodes::has_answer;
+use opcodes::has_length;
+use opcodes::number_of;
+use opcodes::opcode_of;
 use uartboot_flow::kind::Uartboot;
 use uartboot_flow::step::AnswerStep;
 use uartboot_flow::step::CommandStep;

@@ -1,4 +1,3 @@
-pub mod Numbers
 pub mod Parts
 pub mod Ranges
 pub mod Tests

@@ -1,8 +1,6 @@
-// Numbers and ranges as they come over the wire: little-endian numbers, ranges judged without a sum that could wrap, the two units
-// that a place on the device has, the lengths that memories may have, and the line's bytes.
+// Ranges as they come over the wire, judged without a sum that could wrap; the two units that a place on the device has, the lengths
+// that memories may have, and the line's bytes.
 pub mod length;
 pub mod line;
-pub mod number;
-pub mod put;
 pub mod range;
 pub mod unit;

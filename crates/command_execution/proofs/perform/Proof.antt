@@ -8,8 +8,8 @@ use native.Mathlib.Omega.{arith}
 use borrow.Author.Needs.{needs}
 use Rattle.memory.specs.Store.{laid, partOf}
 use Rattle.memory.proofs.Stores.{changed-part, part-length}
-use Rattle.command.specs.declared.opcode.Opcode.the-variants.{Write}
-use Rattle.command.specs.Opcode.{dataPlace}
+use Rattle.opcodes.specs.declared.Opcode.the-variants.{Write}
+use Rattle.opcodes.specs.Opcode.{dataPlace}
 use Rattle.command_execution.specs.declared.Ending.the-variants.{Silent}
 use Rattle.memory.specs.Memories.{memories}
 use Rattle.command_execution.specs.Execution.{ended, placeOf}

@@ -7,7 +7,7 @@ use mathlib.Core.Bool.{true, false}
 use native.Mathlib.Omega.{arith}
 use lib.ListN.{length, length-set}
 use borrow.Author.Needs.{needs}
-use Rattle.wire.specs.Number.{bytesOf}
+use Rattle.numbers.specs.Number.{bytesOf}
 use Rattle.memory.specs.Store.{laid}
 use Rattle.memory.proofs.Stores.{laid-sets}
 use Rattle.frame.specs.Frame.{isExtended}

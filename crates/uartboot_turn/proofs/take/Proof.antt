@@ -38,8 +38,8 @@ one-requires-2 c κs = search needs
 enum-known-taking-4 : tie.Need-enum-known-taking-4
 enum-known-taking-4 c = search needs
 
-shared-slice-read-took-go : tie.Need-shared-slice-read-took-go
-shared-slice-read-took-go c = search needs
+shared-slice-read-took-answer-go : tie.Need-shared-slice-read-took-answer-go
+shared-slice-read-took-answer-go c = search needs
 
 took-answer-go-requires : tie.Need-took-answer-go-requires
 took-answer-go-requires c κs = search needs
@@ -128,7 +128,7 @@ take-spec =
     take-go-requires
     one-requires-2
     enum-known-taking-4
-    shared-slice-read-took-go
+    shared-slice-read-took-answer-go
     took-answer-go-requires
     one-requires-3
     enum-known-taking-5

@@ -3,10 +3,10 @@
 use Prim.Native.Nat.{ℕ, _≤_}
 use mathlib.Core.Path.{_≡_}
 use native.Mathlib.Omega.{arith}
-use Rattle.command.specs.declared.opcode.Opcode.{Opcode}
-use Rattle.command.specs.Opcode.{dataPlace}
+use Rattle.opcodes.specs.declared.Opcode.{Opcode}
+use Rattle.opcodes.specs.Opcode.{dataPlace}
 use Rattle.command.specs.Payload.{Carried}
-use Rattle.command.proofs.Opcodes.{never-shorter}
+use Rattle.opcodes.proofs.Opcodes.{never-shorter}
 use borrow.Author.Needs.{needs}
 use Rattle.command.proofs.payload.command_of.Statement.{statement}
 use Rattle.command.proofs.payload.command_of.Tie as tie

@@ -17,5 +17,5 @@ returns c = record { is = λ m. simp (c .to .ensures, eq-eqb _ _ (c .before .if1
 returns-2 : tie.Need-returns-2
 returns-2 c = record { is = λ m. simp (c .to2 .ensures, ne-eqb _ _ (c .before .if1 .left)) }
 
-pub took-go-spec : {M : Type 1} → statement M
-took-go-spec = tie.close (tie.spec to-requires to-requires-2 returns returns-2)
+pub took-answer-go-spec : {M : Type 1} → statement M
+took-answer-go-spec = tie.close (tie.spec to-requires to-requires-2 returns returns-2)

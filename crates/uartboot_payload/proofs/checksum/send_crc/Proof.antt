@@ -1,7 +1,7 @@
 -- `uartboot_payload::checksum::send_crc`: one store is one send, two stores are two.
 -- Assumes nothing.
 use Rattle.uartboot_payload.proofs.Checksums.{low-sent, crc-sent}
-use Rattle.wire.specs.Number.{lowByte, highByte}
+use Rattle.numbers.specs.Number.{lowByte, highByte}
 use lib.ListN.{length, length-set}
 use mathlib.Core.Path.{_∙_, ap}
 use native.Mathlib.Omega.{arith}

@@ -1,7 +1,7 @@
 -- `uartboot_payload::checksum::send_crc_high`: one store is one send.
 -- Assumes nothing.
 use Rattle.uartboot_payload.proofs.Checksums.{high-sent}
-use Rattle.wire.specs.Number.{highByte}
+use Rattle.numbers.specs.Number.{highByte}
 use mathlib.Core.Path.{_∙_, ap}
 use borrow.Author.Needs.{needs}
 use Rattle.uartboot_payload.proofs.checksum.send_crc_high.Statement.{statement}

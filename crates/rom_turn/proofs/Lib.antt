@@ -1,0 +1,3 @@
+pub mod Xors
+pub mod Codes
+pub mod Ones
