@@ -2,10 +2,10 @@
 ghost use mathlib.Core.Path.{_≡_};
 ghost use Rattle.inspect.specs.Image.{readImage};
 ghost use Rattle.inspect.specs.Product.{readProduct};
-ghost use Rattle.inspect.specs.Command.{readCommand};
+ghost use Rattle.inspect_command.specs.Command.{readCommand};
 use inspect::image_header::ImageRead;
-use inspect::payload::CommandRead;
 use inspect::product_header::ProductRead;
+use inspect_command::CommandRead;
 
 // What an image header at an offset says, and the first rule that the image breaks.
 #[no_mangle]
@@ -28,5 +28,5 @@ pub extern "C" fn und_read_product(flash: &[u8], offset: u32) -> ProductRead
 pub extern "C" fn und_read_command(opcode: u32, payload: &[u8]) -> CommandRead
     ensures { λ r. ⌜ r ≡ readCommand opcode (now (payload .entry)) ⌝ }
 {
-    inspect::payload::read_command(opcode, payload)
+    inspect_command::read_command(opcode, payload)
 }

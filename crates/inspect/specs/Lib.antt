@@ -1,4 +1,3 @@
 pub mod Image
 pub mod Product
-pub mod Command
 pub mod Laws

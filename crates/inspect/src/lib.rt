@@ -1,4 +1,3 @@
-// What image headers, product headers and uartboot's commands say, sound or not, for a bench that shows them.
+// What image headers and product headers say, sound or not, for a bench that shows them.
 pub mod image_header;
-pub mod payload;
 pub mod product_header;

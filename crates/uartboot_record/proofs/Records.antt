@@ -30,7 +30,7 @@ use Rattle.uartboot_flow.specs.Sound.{SoundStep, SoundCommand, SoundAnswer}
 use Rattle.uartboot_record.specs.declared.Numbers.{Numbers}
 use Rattle.uartboot_record.specs.declared.Found.{Found}
 use Rattle.uartboot_record.specs.declared.Found.the-variants.{At, Unsound}
-use Rattle.uartboot_record.specs.Record.{fields, commandNumbers, answerNumbers, numbersOf, written, placesOf, plainStep, payloadStep, commandIn, answerStep, answerIn, lastIn, withOpcode, phaseIn, stepIn, decodedOf}
+use Rattle.uartboot_record.specs.Record.{fields, commandNumbers, answerNumbers, numbersOf, written, placesOf, plainStep, payloadStep, commandIn, answerStep, answerIn, runningIn, withOpcode, phaseIn, stepIn, decodedOf}
 
 module _ (ram work : ℕ) where
   abbrev InFound : Found → Type 0
@@ -83,12 +83,10 @@ module _ (ram work : ℕ) where
       record { has-answer = not-false _ has; some = omega (arith, eqb-false (n .length) 0 some); in-work = ltb-false _ _ fits } in
       (h, answer-step (n .phase) (n .length) (n .place) (n .held) p))))
 
-  last-in : (n : Numbers) → InFound (lastIn ram n)
-  last-in n =
-      in-cond InFound (eqb (n .phase) 18) _ _ (λ e. tt) (λ e.
-      in-cond InFound (eqb (n .phase) 19) _ _
-      (λ e. in-cond InFound (not (eqb (n .opcode) (opcodeNumber Run))) _ _ (λ e. tt) (λ e.
-      in-cond InFound (isInRam (record { 0 = n .held }) ram) _ _ (λ inside. inside) (λ e. tt))) (λ e. tt))
+  running-in : (opcode address : ℕ) → InFound (runningIn ram opcode address)
+  running-in opcode address =
+      in-cond InFound (not (eqb opcode (opcodeNumber Run))) _ _ (λ e. tt) (λ e.
+      in-cond InFound (isInRam (record { 0 = address }) ram) _ _ (λ inside. inside) (λ e. tt))
 
   opcode-in : (found : Lookup) (n : Numbers) → Placed (n .phase) (n .length) (n .place) → InFound (withOpcode work found n)
   opcode-in Unknown n p = tt
@@ -98,7 +96,9 @@ module _ (ram work : ℕ) where
   unfolding phaseIn
   phase-in n p =
       in-cond InFound (ltb (n .phase) 5) _ _ (λ e. plain-step n p) (λ e.
-      in-cond InFound (ltb 17 (n .phase)) _ _ (λ e. last-in n) (λ e. opcode-in (opcodeOf (n .opcode)) n p))
+      in-cond InFound (eqb (n .phase) 18) _ _ (λ e. tt) (λ e.
+      in-cond InFound (eqb (n .phase) 19) _ _ (λ e. running-in (n .opcode) (n .held)) (λ e.
+      in-cond InFound (ltb 17 (n .phase)) _ _ (λ e. tt) (λ e. opcode-in (opcodeOf (n .opcode)) n p))))
 
   step-in : (n : Numbers) → InFound (stepIn ram work n)
   unfolding stepIn

@@ -133,10 +133,6 @@ runningIn ram opcode address =
     cond (not (eqb opcode (opcodeNumber Run))) Unsound
     (cond (isInRam (record { 0 = address }) ram) (At (Running (record { 0 = address }))) Unsound)
 
--- phases 18 and 19, and unknown ones
-abbrev pub lastIn : (ram : ℕ) → Numbers → Found
-lastIn ram n = cond (eqb (n .phase) 18) (At Refusal) (cond (eqb (n .phase) 19) (runningIn ram (n .opcode) (n .held)) Unsound)
-
 -- a command's or an answer's opcode must be known
 abbrev pub withOpcode : (work : ℕ) → Lookup → Numbers → Found
 withOpcode work Unknown n = Unsound
@@ -145,8 +141,10 @@ withOpcode work (Known opcode) n = cond (ltb (n .phase) 11) (commandIn work opco
 unfoldable pub phaseIn : (ram work : ℕ) → Numbers → Found
 phaseIn ram work n =
     cond (ltb (n .phase) 5) (At (plainStep n))
-    (cond (ltb 17 (n .phase)) (lastIn ram n)
-    (withOpcode work (opcodeOf (n .opcode)) n))
+    (cond (eqb (n .phase) 18) (At Refusal)
+    (cond (eqb (n .phase) 19) (runningIn ram (n .opcode) (n .held))
+    (cond (ltb 17 (n .phase)) Unsound
+    (withOpcode work (opcodeOf (n .opcode)) n))))
 
 -- a place beyond what its phase takes or sends is unsound
 unfoldable pub stepIn : (ram work : ℕ) → Numbers → Found

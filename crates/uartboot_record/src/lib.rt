@@ -1,6 +1,6 @@
 // The record of a uartboot session: a step in numbers, and back.
 ghost use mathlib.Core.Path.{_≡_};
-ghost use Rattle.uartboot_record.specs.Record.{fields, headerNumbers, commandNumbers, answerNumbers, numbersOf, written, placesOf, plainStep, payloadStep, commandIn, answerStep, answerIn, runningIn, lastIn, phaseIn, stepIn, decodedOf};
+ghost use Rattle.uartboot_record.specs.Record.{fields, headerNumbers, commandNumbers, answerNumbers, numbersOf, written, placesOf, plainStep, payloadStep, commandIn, answerStep, answerIn, runningIn, phaseIn, decodedOf};
 use machine::Record;
 use opcodes::Lookup;
 use opcodes::Opcode;
@@ -214,17 +214,6 @@ fn running_in(ram: usize, opcode: u32, address: u32) -> Found
     }
 }
 
-fn last_in(ram: usize, n: Numbers) -> Found
-    ensures { λ r. ⌜ r ≡ lastIn ram n ⌝ }
-{
-    let phase = n.phase;
-    match phase {
-        18 => Found::At(Step::Refusal),
-        19 => running_in(ram, n.opcode, n.held),
-        _ => Found::Unsound,
-    }
-}
-
 // The step of a phase, whatever the place.
 fn phase_in(ram: usize, work: usize, n: Numbers) -> Found
     ensures { λ r. ⌜ r ≡ phaseIn ram work n ⌝ }
@@ -232,8 +221,14 @@ fn phase_in(ram: usize, work: usize, n: Numbers) -> Found
     if n.phase < 5 {
         return Found::At(plain_step(n));
     }
+    if n.phase == 18 {
+        return Found::At(Step::Refusal);
+    }
+    if n.phase == 19 {
+        return running_in(ram, n.opcode, n.held);
+    }
     if 17 < n.phase {
-        return last_in(ram, n);
+        return Found::Unsound;
     }
     let Lookup::Known(opcode) = opcode_of(n.opcode) else {
         return Found::Unsound;
@@ -244,16 +239,6 @@ fn phase_in(ram: usize, work: usize, n: Numbers) -> Found
     answer_in(work, opcode, n)
 }
 
-fn step_in(ram: usize, work: usize, n: Numbers) -> Found
-    ensures { λ r. ⌜ r ≡ stepIn ram work n ⌝ }
-{
-    if n.place < places_of(n.phase, n.length) {
-        phase_in(ram, work, n)
-    } else {
-        Found::Unsound
-    }
-}
-
 // The step that a record stands for, with memories of these lengths.
 pub fn decode(ram: usize, work: usize, session: Record) -> Found
     ensures { λ r. ⌜ r ≡ decodedOf ram work session ⌝ }
@@ -261,15 +246,16 @@ pub fn decode(ram: usize, work: usize, session: Record) -> Found
     if session.kind != Uartboot::KIND {
         return Found::Unsound;
     }
-    step_in(
-        ram,
-        work,
-        fields(
-            session.phase,
-            session.opcode,
-            session.length,
-            session.place,
-            session.held,
-        ),
-    )
+    let n = fields(
+        session.phase,
+        session.opcode,
+        session.length,
+        session.place,
+        session.held,
+    );
+    if n.place < places_of(n.phase, n.length) {
+        phase_in(ram, work, n)
+    } else {
+        Found::Unsound
+    }
 }

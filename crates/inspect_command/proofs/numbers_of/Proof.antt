@@ -1,8 +1,8 @@
--- `inspect::payload::numbers_of`: the command is known in every arm.
+-- `inspect_command::numbers_of`: the command is known in every arm.
 -- Assumes nothing.
 use borrow.Author.Needs.{needs}
-use Rattle.inspect.proofs.payload.numbers_of.Statement.{statement}
-use Rattle.inspect.proofs.payload.numbers_of.Tie as tie
+use Rattle.inspect_command.proofs.numbers_of.Statement.{statement}
+use Rattle.inspect_command.proofs.numbers_of.Tie as tie
 
 enum-known-command : tie.Need-enum-known-command
 enum-known-command c = search needs

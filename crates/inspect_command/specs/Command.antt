@@ -11,7 +11,7 @@ use Rattle.command.specs.declared.payload.Command.{Command}
 use Rattle.command.specs.declared.payload.Command.the-variants.{Write, Read, Copy, Erase, Run, ReadQspi, Version, ChipErase, DirectWrite}
 use Rattle.opcodes.specs.Opcode.{unknownOpcode, badLength, opcodeOf, hasLength}
 use Rattle.command.specs.Payload.{commandOf}
-use Rattle.inspect.specs.declared.payload.CommandRead.{CommandRead}
+use Rattle.inspect_command.specs.declared.CommandRead.{CommandRead}
 
 -- the longest payload whose length a header's two bytes can say
 abbrev pub longestPayload : ℕ

@@ -1,12 +1,12 @@
--- `inspect::payload::read_command`: each refusal by the test that led there, else by the command that the payload says.
+-- `inspect_command::read_command`: each refusal by the test that led there, else by the command that the payload says.
 -- Assumes nothing.
 use mathlib.Core.Path.{sym, _∙_}
 use native.Mathlib.Omega.{arith}
 use borrow.Author.Needs.{needs}
 use borrow.Author.Tests.{lt-ltb, le-ltb, not-true, not-false}
-use Rattle.inspect.specs.Command.{readCommand}
-use Rattle.inspect.proofs.payload.read_command.Statement.{statement}
-use Rattle.inspect.proofs.payload.read_command.Tie as tie
+use Rattle.inspect_command.specs.Command.{readCommand}
+use Rattle.inspect_command.proofs.read_command.Statement.{statement}
+use Rattle.inspect_command.proofs.read_command.Tie as tie
 
 opcode-of-requires : tie.Need-opcode-of-requires
 opcode-of-requires c κs = search needs

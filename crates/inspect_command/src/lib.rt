@@ -1,6 +1,6 @@
 // What a command's payload says.
 ghost use mathlib.Core.Path.{_≡_};
-ghost use Rattle.inspect.specs.Command.{refused, says, numbersOf, readCommand};
+ghost use Rattle.inspect_command.specs.Command.{refused, says, numbersOf, readCommand};
 use command::payload::Command;
 use command::payload::command_of;
 use opcodes::BAD_LENGTH;
