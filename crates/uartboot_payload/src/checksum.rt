@@ -35,7 +35,7 @@ pub fn send_crc(
     }
     reply[next] = high_byte(crc as u32);
     Moved {
-        step: Step::Command(opcode, size, CommandStep::TakeGo),
+        step: Step::Command(opcode, size, CommandStep::TakeGo), // both bytes have gone
         reason: reason,
         count: 2,
     }
