@@ -1,5 +1,5 @@
 #!/usr/bin/env python3
-"""Whether undalisho.h, README.md, the Rattle sources and the archive have the same functions, structs and phases.
+"""Whether undalisho.h, the Rattle sources and the archive have the same functions, structs and phases.
 
 agree.py ROOT ARCHIVE
 """
@@ -12,7 +12,6 @@ from pathlib import Path
 
 import header_names
 import phases
-import quoted
 import signatures
 
 GCC = ["gcc", "-Wall", "-Wextra", "-Wpedantic", "-Werror"]
@@ -50,26 +49,19 @@ def check_archive(functions, archive):
     same_names("the archive", names, signatures.names_of(functions, []))
 
 
-def check_header(functions, structs, header, where):
+def check_header(functions, structs, header):
     c = signatures.c_file(functions, structs)
     for machine in MACHINES:
-        run(where, [*GCC, *machine, "-std=c11", "-fsyntax-only", "-I", str(header.parent), "-x", "c", "-"], input=c)
+        run("the header", [*GCC, *machine, "-std=c11", "-fsyntax-only", "-I", str(header.parent), "-x", "c", "-"], input=c)
     try:
         names = header_names.names_of(header)
     except ValueError as error:
         raise Differs(str(error)) from None
-    same_names(where, names, signatures.names_of(functions, structs))
+    same_names("the header", names, signatures.names_of(functions, structs))
     wanted = signatures.parameter_names(functions)
     for name, given in header_names.parameter_names(header).items():
         if given != wanted[name]:
-            raise Differs(f"{where} gives {name} the parameters {given}, the sources {wanted[name]}")
-
-
-def check_readme(functions, structs, root, folder):
-    """README's declarations, held to the Rattle sources as the header is."""
-    header = folder / "undalisho.h"
-    header.write_text("#include <stddef.h>\n#include <stdint.h>\n" + quoted.readme_blocks(root)[0])
-    check_header(functions, structs, header, "README.md")
+            raise Differs(f"the header gives {name} the parameters {given}, the sources {wanted[name]}")
 
 
 def run_over(include, archive, source, folder):
@@ -85,12 +77,11 @@ def check_claims(include, archive, folder):
 
 
 def check_phases(root, archive, folder):
-    """The words that a phase uses: in the header's tables, in README's and in the library."""
+    """The words that a phase uses: in the header's tables and in the library."""
     library = run_over(Path(root) / "include", archive, PHASES, folder).splitlines()
-    for where, lines in ("the header", phases.header_lines(root)), ("README.md", phases.readme_lines(root)):
-        for said, given in itertools.zip_longest(lines, library):
-            if said != given:
-                raise Differs(f"{where} has the phase '{said}', the library '{given}'")
+    for said, given in itertools.zip_longest(phases.header_lines(root), library):
+        if said != given:
+            raise Differs(f"the header has the phase '{said}', the library '{given}'")
 
 
 def agree(root, archive):
@@ -101,9 +92,8 @@ def agree(root, archive):
         raise Differs(f"signatures: {unknown}") from None
     include = Path(root) / "include"
     with tempfile.TemporaryDirectory() as folder:
-        check_header(functions, structs, include / "undalisho.h", "the header")
+        check_header(functions, structs, include / "undalisho.h")
         check_archive(functions, archive)
-        check_readme(functions, structs, root, Path(folder))
         check_claims(include, archive, Path(folder))
         check_phases(root, archive, Path(folder))
     return len(functions), len(structs)
@@ -115,8 +105,8 @@ def main():
     try:
         functions, structs = agree(*sys.argv[1:])
     except Differs as differs:
-        sys.exit(f"boundary: header, README, Rattle sources and archive do not agree:\n{differs}")
-    print(f"boundary: {functions} functions, {structs} structs agree in header, README, Rattle sources and archive; phases too")
+        sys.exit(f"boundary: header, Rattle sources and archive do not agree:\n{differs}")
+    print(f"boundary: {functions} functions, {structs} structs agree in header, Rattle sources and archive; phases too")
 
 
 if __name__ == "__main__":

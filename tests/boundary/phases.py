@@ -1,20 +1,19 @@
-"""The tables of phases in undalisho.h and README.md: for each kind and phase a line with the words that it uses."""
+"""The tables of phases in undalisho.h: for each kind and phase a line with the words that it uses."""
 import re
 from pathlib import Path
 
 PHASES = r"(\d+(?:, \d+)*)"
-HEADER_ROW = rf" \*     {PHASES} +(.*?)(?:  +(.*))?"
-README_ROW = rf"\| {PHASES} \| (.*?) \| (.*?) ?\|"
+ROW = rf" \*     {PHASES} +(.*?)(?:  +(.*))?"
 
 # What a table says of a word besides, where it tells nothing that a record shows.
 REMARKS = r" \((?:of the payload|of the answer|the address)\)"
 
 
-def rows(text, head, form):
+def rows(text, head):
     """The rows below a table's head: phases, what the session does, words."""
     found = []
     for line in text[text.index(head):].split("\n")[1:]:
-        row = re.fullmatch(form, line)
+        row = re.fullmatch(ROW, line)
         if row:
             found.append((row[1].split(", "), row[2], re.sub(REMARKS, "", row[3] or "")))
         elif found:
@@ -30,9 +29,4 @@ def lines_of(receiver, uartboot):
 
 def header_lines(root):
     text = Path(root, "include/undalisho.h").read_text()
-    return lines_of(*(rows(text, f" *     phase{name}", HEADER_ROW) for name in ("  the receiver", "    uartboot")))
-
-
-def readme_lines(root):
-    text = Path(root, "README.md").read_text()
-    return lines_of(*(rows(text, f"| Phase | {name} |", README_ROW) for name in ("The receiver", "uartboot")))
+    return lines_of(*(rows(text, f" *     phase{name}") for name in ("  the receiver", "    uartboot")))

@@ -1,7 +1,7 @@
 #!/usr/bin/env python3
-"""The C that undalisho.h and README.md quote.
+"""What undalisho.h and README.md quote: an example, and a program with the command that makes it and what it prints.
 
-quoted.py ROOT header-example|readme-declarations|readme-loop
+quoted.py ROOT header-example|readme-program|readme-command|readme-output
 """
 import re
 import sys
@@ -16,20 +16,21 @@ def header_example(root):
     return re.sub(r"\n \*(     )?", "\n", code).lstrip("\n") + "\n"
 
 
-def readme_blocks(root):
-    """The C blocks of README's section 'From C': the declarations, and a session's loop."""
+def readme_example(root):
+    """README's section 'From C': a block of C, then a command after a $ and what it prints, both further in."""
     text = (Path(root) / "README.md").read_text()
     section = re.search(r"^## From C\n(.*?)(?=^## )", text, re.DOTALL | re.MULTILINE)[1]
-    blocks = re.findall(r"^```c\n(.*?)^```$", section, re.DOTALL | re.MULTILINE)
-    if len(blocks) != 2:
-        sys.exit(f"quoted: README's section 'From C' has {len(blocks)} blocks of C, and not declarations and a loop")
-    return blocks
+    found = re.fullmatch(r".*?^```c\n(.*?)^```\n\n    \$ ([^\n]*)\n((?:    [^\n]*\n)+)\n*", section, re.DOTALL | re.MULTILINE)
+    if not found:
+        sys.exit("quoted: README's section 'From C' does not end with a program, its command and what it prints")
+    return found[1], found[2] + "\n", re.sub(r"^    ", "", found[3], flags=re.MULTILINE)
 
 
 PARTS = {
     "header-example": header_example,
-    "readme-declarations": lambda root: readme_blocks(root)[0],
-    "readme-loop": lambda root: readme_blocks(root)[1],
+    "readme-program": lambda root: readme_example(root)[0],
+    "readme-command": lambda root: readme_example(root)[1],
+    "readme-output": lambda root: readme_example(root)[2],
 }
 
 

@@ -1,5 +1,5 @@
 #!/usr/bin/env python3
-"""Wrong edits of the header, README, the Rattle sources and the archive, each made in a copy: agree.py has to refuse each
+"""Wrong edits of the header, the Rattle sources and the archive, each made in a copy: agree.py has to refuse each
 of them, for the right reason.
 
 wrong_edits.py ROOT ARCHIVE
@@ -13,7 +13,7 @@ from pathlib import Path
 
 from agree import Differs, agree
 
-HEADER, README = "include/undalisho.h", "README.md"
+HEADER = "include/undalisho.h"
 CAPI, OFFER = "crates/capi/src/lib.rt", "crates/offer/src/lib.rt"
 CAPI_FRAME, FRAME = "crates/capi_frame/src/lib.rt", "crates/frame/src/lib.rt"
 CAPI_ROM, CAPI_UARTBOOT, CALLED = "crates/capi_rom/src/lib.rt", "crates/capi_uartboot/src/lib.rt", "crates/called/src/lib.rt"
@@ -38,6 +38,7 @@ EDITS = {
         ("number behind the bytes", "uint32_t opcode, const uint8_t *payload, size_t payload_len",
          "const uint8_t *payload, size_t payload_len, uint32_t opcode", "conflicting types for 'und_read_command'"),
         ("byte of 32 bits as parameter", "uint8_t id,", "uint32_t id,", "conflicting types for 'und_make_image_header'"),
+        ("time of 64 bits", "uint32_t time);", "uint64_t time);", "conflicting types for 'und_make_image_header'"),
         ("const dropped", "(const uint8_t *field", "(uint8_t *field", "conflicting types for 'und_rank'"),
         ("const added", "uint8_t *work, size_t", "const uint8_t *work, size_t", "conflicting types for 'und_uartboot_call'"),
         ("record that is only read", "uartboot_fresh(uint32_t record[8])", "uartboot_fresh(const uint32_t record[8])",
@@ -142,32 +143,12 @@ EDITS = {
         ("place of one byte", "takes 06                                              opcode, length",
          "takes 06                                              opcode, length, place (below the length)",
          "the header has the phase 'uartboot 13: opcode, length, place"),
+        ("code without places", "takes code                                              length, place (below the length)",
+         "takes code                                              length", "the header has the phase 'P 7: length', the library"),
+        ("phase of both kinds", "low byte of the extended length (E only)", "low byte of the extended length",
+         "the header has the phase 'P 4: ', the library 'P 6: length'"),
         ("phase left out", " *     18       sends 15\n", "",
          "the header has the phase 'uartboot 19: .*, the library 'uartboot 18: '"),
-    ],
-    README: [
-        ("const dropped", "und_rank(const uint8_t *", "und_rank(uint8_t *",
-         "(?s)^README.md:.* conflicting types for 'und_rank'"),
-        ("fields swapped", "{ uint32_t number, slot; }", "{ uint32_t slot, number; }",
-         '(?s)^README.md:.* static assertion failed: "und_selected.number: place"'),
-        ("function left out", "void         und_uartboot_fresh(uint32_t record[8]);", "",
-         "README.md .*lacks .'function und_uartboot_fresh'."),
-        ("fields of a reading swapped", "number, address, offset, count", "number, offset, address, count",
-         '(?s)^README.md:.* static assertion failed: "und_command.address: place"'),
-        ("reading left out", "und_product  und_read_product(const uint8_t *flash, size_t flash_len, uint32_t header_offset);",
-         "", "README.md .*lacks .'function und_read_product'."),
-        ("longer header", "bytes[64]", "bytes[65]",
-         '(?s)^README.md:.* static assertion failed: "und_image_header.bytes: type"'),
-        ("time of 64 bits", "uint32_t time);", "uint64_t time);",
-         "(?s)^README.md:.* conflicting types for 'und_make_image_header'"),
-        ("running without its opcode", "| opcode (05), held (the address) |", "| held (the address) |",
-         "README.md has the phase 'uartboot 19: held', the library 'uartboot 19: opcode"),
-        ("receiver without its address", "| runs the code | held (the address) |",
-         "| runs the code | |", "README.md has the phase 'P 11: ', the library 'P 11: held'"),
-        ("code without places", "| length, place (below the length) |", "| length |",
-         "README.md has the phase 'P 7: length', the library"),
-        ("phase of both kinds", "low byte of the extended length (E only)", "low byte of the extended length",
-         "README.md has the phase 'P 4: ', the library 'P 6: length'"),
     ],
     CAPI: [
         ("lent memories swapped", "installed: &[u8], candidate: &[u8]", "candidate: &[u8], installed: &[u8]",
@@ -244,7 +225,7 @@ def numbered_edits(root):
 
 def copy_of(root, tree):
     """The files that agree.py reads."""
-    for path in [Path(root, HEADER), Path(root, README), *Path(root).glob("crates/*/src/**/*.rt")]:
+    for path in [Path(root, HEADER), *Path(root).glob("crates/*/src/**/*.rt")]:
         copy = tree / path.relative_to(root)
         copy.parent.mkdir(parents=True, exist_ok=True)
         shutil.copyfile(path, copy)
@@ -288,7 +269,7 @@ def main():
             try_edit(Path(folder), archive, *edit)
         for edit in ARCHIVES:
             try_archive(Path(folder), archive, *edit)
-    print(f"boundary: {len(edits) + len(ARCHIVES)} wrong edits of header, README, Rattle sources and archive refused")
+    print(f"boundary: {len(edits) + len(ARCHIVES)} wrong edits of header, Rattle sources and archive refused")
 
 
 if __name__ == "__main__":
