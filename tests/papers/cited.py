@@ -1,7 +1,7 @@
 """Whether every file, definition and C function that a paper cites exists."""
 import re
 
-from tree import NAME, anchors, declared, links
+from tree import NAME, anchors, declared, links, named
 
 # What begins so, in a paper's backticks, is a path.
 PATH = re.compile(r"(?:crates|tests|tool|docs|include|bench|\.ci)/[\w.*/{},-]*|(?:README|CONTRIBUTING)\.md|Makefile|crates\.txt")
@@ -14,7 +14,7 @@ def wrong_links(tree, paper):
             yield f"{paper}: there is no {path}"
         elif not tree.is_folder(path):
             text = tree.text(path)
-            yield from (f"{paper}: {path} does not declare {name}" for name in names if name not in {path, *declared(path, text)})
+            yield from (f"{paper}: {path} does not declare {name}" for name in names if name not in named(path) | declared(path, text))
             if anchor and anchor not in anchors(text):
                 yield f"{paper}: {path} has no heading for #{anchor}"
 

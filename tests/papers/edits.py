@@ -1,3 +1,35 @@
 """Wrong edits of papers and sources: what is wrong, the file, what is there once (None: the file is taken away), what is put in its
 place, words of the refusal."""
-EDITS = []
+RULES, PROMISES, README = "docs/RULES.md", "docs/PROMISES.md", "README.md"
+ID, CHECK, HEADER = "crates/slot/specs/Id.antt", "crates/command/specs/Check.antt", "include/undalisho.h"
+
+EDITS = [
+    # Definitions, files and C functions that are cited.
+    ("definition that is not there", RULES, "[`isNewer`]", "[`isYounger`]", "Id.antt does not declare isYounger"),
+    ("definition renamed", ID, "abbrev pub isNewer :", "abbrev pub isYounger :", "Id.antt does not declare isNewer"),
+    ("file that is not there", RULES, "slot/specs/Id.antt", "slot/specs/Ids.antt", "there is no crates/slot/specs/Ids.antt"),
+    ("file taken away", "docs/DESIGN.md", None, None, "there is no docs/DESIGN.md"),
+    ("path that is not there", "docs/DESIGN.md", "`tests/papers`", "`tests/sheets`", "there is no tests/sheets"),
+    ("heading that is not there", RULES, "(#changed-by-request)", "(#changed)", "has no heading for #changed"),
+    ("C function that is not there", README, "und_frame_e(code", "und_frame(code", "nothing for C has the name und_frame"),
+    ("C function renamed", HEADER, "und_ordered und_order(", "und_ordered und_orders(", "nothing for C has the name und_order"),
+    # Rules and the definitions that cite them.
+    ("section that is not there", ID, "rules, 10.3", "rules, 10.9", "there are no rules, 10.9"),
+    ("section of something else", ID, "rules, 10.3", "rules, 10.1", "cites rules, 10.1, which does not link it"),
+    ("definition that cites nothing", ID, "rules, 10.3", "rules", "10.3 links crates/slot/specs/Id.antt, which does not cite it"),
+    ("section out of order", RULES, "### 4.3 Code", "### 4.6 Code", "do not count from 1"),
+    # Numbers.
+    ("number of a definition", CHECK, "outsideMemory = 16", "outsideMemory = 21", "16 is not the number of outsideMemory"),
+    ("number for C", HEADER, "UND_OUTSIDE_MEMORY = 16", "UND_OUTSIDE_MEMORY = 21", "16 is not the number of UND_OUTSIDE_MEMORY"),
+    ("number with no row", HEADER, "UND_ROM_NOT_ACKED = 34", "UND_ROM_NOT_ACKED = 34,\n    UND_MORE = 35", "the table has no UND_MORE"),
+    # Promises.
+    ("function left out", PROMISES, "`burn`, `wipe`, `erase`", "`burn`, `erase`", "wipe of crates/memory/src/flash.rt is listed 0 times"),
+    ("function listed twice", PROMISES, "`burn`, `wipe`, `erase`", "`burn`, `wipe`, `erase`, `burn`", "is listed 2 times"),
+    ("function renamed", "crates/memory/src/flash.rt", "pub fn wipe(", "pub fn clear(", "flash.rt has no pub fn wipe"),
+    ("caller asked for something", "crates/capi/src/lib.rt", "    ensures { λ r. ⌜ r ≡ rankOf",
+     "    requires { ⌜ 0 ≡ 0 ⌝ }\n    ensures { λ r. ⌜ r ≡ rankOf", "und_rank of crates/capi/src/lib.rt asks something of its caller"),
+    ("promise of another definition", "crates/capi/src/lib.rt", "r ≡ selectOf", "r ≡ slotBy", "names none of selectOf"),
+    # Groups of crates.
+    ("crate in no group", README, ", `sheet`;", ";", "the crate sheet is in no group"),
+    ("crate that uses one below it", "crates.txt", "numbers: wire\n", "numbers: wire machine\n", "numbers uses machine, of a group below"),
+]

@@ -54,6 +54,12 @@ def methods(text):
     return {f"{kind}::{name}" for kind, body in METHOD.findall(text) for name in re.findall(r"\bfn (\w+)", body)}
 
 
+def named(path):
+    """What a link's text may call a file itself: its path or a part of it, with or without its ending."""
+    parts = path.split("/")
+    return {"/".join(parts[start:]) for start in range(len(parts))} | {parts[-1].rpartition(".")[0]}
+
+
 def declared(path, text):
     """The names that a file declares; of a file in no language of ours, all its words."""
     if path.endswith(".antt"):
