@@ -1,7 +1,8 @@
 /* Inputs and room for the subjects. */
+#include "subjects.h"
+
 #include <stdio.h>
 #include <stdlib.h>
-#include "subjects.h"
 
 enum { PAGE = 4096 };
 

@@ -1,9 +1,10 @@
 /* The library against plain C: one table, every line measured in this run. */
-#include <stdio.h>
 #include "measure.h"
 #include "plain.h"
 #include "plain_command.h"
 #include "subjects.h"
+
+#include <stdio.h>
 
 #define GOAL 0.9
 #define STEEPEST 1.25
@@ -11,25 +12,25 @@
 #define SESSION session_prepare, session_library, session_plain, session_same
 
 static const subject subjects[] = {
-    { "CRC-16", 65535, WITH_TABLE, 0, 0, crc_prepare, crc16_library, crc16_plain, crc_same },
-    { "CRC-32", 131072, WITH_TABLE | WITH_ZLIB, 0, 0, crc_prepare, crc32_library, crc32_plain, crc_same },
-    { "ROM load", 131071, WITH_LOOP, 0, 0, SESSION },
-    { "ROM load, pieces of 64", 131071, WITH_LOOP, 64, 0, SESSION },
-    { "Write", 65535, WITH_TABLE, 0, WRITE, SESSION },
-    { "Write, pieces of 64", 65535, WITH_TABLE, 64, WRITE, SESSION },
-    { "Direct write with verify", 65535, WITH_TABLE, 0, DIRECT_WRITE, SESSION },
-    { "Direct write with verify, pieces of 64", 65535, WITH_TABLE, 64, DIRECT_WRITE, SESSION },
-    { "Read", 65535, WITH_TABLE, 0, READ, SESSION },
-    { "Read, pieces of 64", 65535, WITH_TABLE, 64, READ, SESSION },
-    { "Read QSPI", 65535, WITH_TABLE, 0, READ_QSPI, SESSION },
-    { "Read QSPI, pieces of 64", 65535, WITH_TABLE, 64, READ_QSPI, SESSION },
-    { "Select of two images", 131072, WITH_TABLE | WITH_ZLIB, 0, 0, slot_prepare, slot_library, slot_plain, slot_same },
-    { "Rank of versions", 1024, 0, 0, 0, version_prepare, version_library, version_plain, version_same },
+    {"CRC-16", 65535, WITH_TABLE, 0, 0, crc_prepare, crc16_library, crc16_plain, crc_same},
+    {"CRC-32", 131072, WITH_TABLE | WITH_ZLIB, 0, 0, crc_prepare, crc32_library, crc32_plain, crc_same},
+    {"ROM load", 131071, WITH_LOOP, 0, 0, SESSION},
+    {"ROM load, pieces of 64", 131071, WITH_LOOP, 64, 0, SESSION},
+    {"Write", 65535, WITH_TABLE, 0, WRITE, SESSION},
+    {"Write, pieces of 64", 65535, WITH_TABLE, 64, WRITE, SESSION},
+    {"Direct write with verify", 65535, WITH_TABLE, 0, DIRECT_WRITE, SESSION},
+    {"Direct write with verify, pieces of 64", 65535, WITH_TABLE, 64, DIRECT_WRITE, SESSION},
+    {"Read", 65535, WITH_TABLE, 0, READ, SESSION},
+    {"Read, pieces of 64", 65535, WITH_TABLE, 64, READ, SESSION},
+    {"Read QSPI", 65535, WITH_TABLE, 0, READ_QSPI, SESSION},
+    {"Read QSPI, pieces of 64", 65535, WITH_TABLE, 64, READ_QSPI, SESSION},
+    {"Select of two images", 131072, WITH_TABLE | WITH_ZLIB, 0, 0, slot_prepare, slot_library, slot_plain, slot_same},
+    {"Rank of versions", 1024, 0, 0, 0, version_prepare, version_library, version_plain, version_same},
 };
 
 enum { SUBJECTS = sizeof subjects / sizeof subjects[0] };
 
-static const char *const names[WORKERS] = { "library", "plain C", "table", "zlib", "byte loop" };
+static const char *const names[WORKERS] = {"library", "plain C", "table", "zlib", "byte loop"};
 
 static int all_agree(void)
 {
@@ -95,7 +96,8 @@ int main(void)
     plain_fill_tables();
     if (!all_agree())
         return 1;
-    puts("| What | Size | Library, µs | Plain C, µs | Ratio | Beside it | ns per byte or version, at a quarter | half | full size | Cost |");
+    puts("| What | Size | Library, µs | Plain C, µs | Ratio | Beside it | ns per byte or version, at a quarter | "
+         "half | full size | Cost |");
     puts("|---|--:|--:|--:|--:|---|--:|--:|--:|---|");
     for (int i = 0; i < SUBJECTS; i++)
         verdicts[i] = print_line(&subjects[i]);

@@ -1,8 +1,10 @@
 /* Timing: library and plain C take turns, so that both meet the same noise; the median of many turns counts. */
+#include "measure.h"
+
+#include "plain.h"
+
 #include <stdlib.h>
 #include <time.h>
-#include "measure.h"
-#include "plain.h"
 
 enum { WARM_UP = 10, TURNS = 301 };
 

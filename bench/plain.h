@@ -2,9 +2,10 @@
 #ifndef PLAIN_H
 #define PLAIN_H
 
+#include "undalisho.h"
+
 #include <stddef.h>
 #include <stdint.h>
-#include "undalisho.h"
 
 /* The words of a record. The last one, which the library keeps 0, holds the payload's CRC between its two bytes. */
 enum { KIND, PHASE, OPCODE, LENGTH, PLACE, HELD, REASON, CRC };
@@ -15,7 +16,8 @@ enum { KIND, PHASE, OPCODE, LENGTH, PLACE, HELD, REASON, CRC };
 /* The bytes of the line. */
 enum { SOH = 0x01, STX = 0x02, ACK = 0x06, NAK = 0x15 };
 
-/* What the routines below copy and sum with: memcpy and the bitwise CRCs, unless the bench puts others in their place. */
+/* What the routines below copy and sum with: memcpy and the bitwise CRCs, unless the bench puts others in their
+   place. */
 typedef struct {
     void *(*copy)(void *to, const void *from, size_t count);
     uint16_t (*crc16)(const uint8_t *bytes, size_t count);
@@ -39,7 +41,8 @@ void plain_rom_fresh(uint32_t kind, uint32_t record[8]);
 und_report plain_rom_call(uint32_t record[8], const uint8_t *input, size_t input_len, uint8_t *reply, size_t reply_len,
                           uint8_t *ram, size_t ram_len);
 void plain_uartboot_fresh(uint32_t record[8]);
-und_report plain_uartboot_call(uint32_t record[8], const uint8_t *input, size_t input_len, uint8_t *reply, size_t reply_len,
-                               uint8_t *ram, size_t ram_len, uint8_t *flash, size_t flash_len, uint8_t *work, size_t work_len);
+und_report plain_uartboot_call(uint32_t record[8], const uint8_t *input, size_t input_len, uint8_t *reply,
+                               size_t reply_len, uint8_t *ram, size_t ram_len, uint8_t *flash, size_t flash_len,
+                               uint8_t *work, size_t work_len);
 
 #endif

@@ -1,7 +1,9 @@
 /* uartboot's commands in plain C. */
-#include <string.h>
-#include "plain.h"
 #include "plain_command.h"
+
+#include "plain.h"
+
+#include <string.h>
 
 enum { SECTOR = 4096 };
 
@@ -24,21 +26,14 @@ int plain_is_known(uint32_t opcode)
 int plain_has_length(uint32_t opcode, size_t length)
 {
     switch (opcode) {
-    case WRITE:
-        return length >= 5;
+    case WRITE: return length >= 5;
     case READ:
-    case READ_QSPI:
-        return length == 6;
-    case COPY:
-        return length == 10;
-    case ERASE:
-        return length == 8;
-    case RUN:
-        return length == 4;
-    case DIRECT_WRITE:
-        return length >= 6;
-    default:
-        return length == 0;
+    case READ_QSPI: return length == 6;
+    case COPY: return length == 10;
+    case ERASE: return length == 8;
+    case RUN: return length == 4;
+    case DIRECT_WRITE: return length >= 6;
+    default: return length == 0;
     }
 }
 
@@ -52,7 +47,8 @@ static int in_range(size_t start, size_t count, size_t base, size_t length)
     return start >= base && start - base <= length && count <= length - (start - base);
 }
 
-/* What is tested of a command: its count, its range in RAM, its range in flash, the answer's length. What it doesn't have is 0. */
+/* What is tested of a command: its count, its range in RAM, its range in flash, the answer's length. What it doesn't
+   have is 0. */
 typedef struct {
     size_t count, address, ram, offset, flash, answer;
 } demands;
@@ -61,24 +57,15 @@ static demands demands_of(uint32_t opcode, size_t length, const uint8_t *work)
 {
     size_t first = plain_number32(work), count = number16(work + 4);
     switch (opcode) {
-    case WRITE:
-        return (demands){ length - 4, first, length - 4, 0, 0, 0 };
-    case READ:
-        return (demands){ count, first, count, 0, 0, count };
-    case COPY:
-        return (demands){ count, first, count, plain_number32(work + 6), count, 0 };
-    case ERASE:
-        return (demands){ plain_number32(work + 4), RAM_BASE, 0, first, plain_number32(work + 4), 0 };
-    case RUN:
-        return (demands){ 1, first, 1, 0, 0, 0 };
-    case READ_QSPI:
-        return (demands){ count, RAM_BASE, 0, first, count, count };
-    case DIRECT_WRITE:
-        return (demands){ length - 5, RAM_BASE, 0, plain_number32(work + 1), length - 5, 0 };
-    case VERSION:
-        return (demands){ 1, RAM_BASE, 0, 0, 0, 7 };
-    default:
-        return (demands){ 1, RAM_BASE, 0, 0, 0, 0 };
+    case WRITE: return (demands){length - 4, first, length - 4, 0, 0, 0};
+    case READ: return (demands){count, first, count, 0, 0, count};
+    case COPY: return (demands){count, first, count, plain_number32(work + 6), count, 0};
+    case ERASE: return (demands){plain_number32(work + 4), RAM_BASE, 0, first, plain_number32(work + 4), 0};
+    case RUN: return (demands){1, first, 1, 0, 0, 0};
+    case READ_QSPI: return (demands){count, RAM_BASE, 0, first, count, count};
+    case DIRECT_WRITE: return (demands){length - 5, RAM_BASE, 0, plain_number32(work + 1), length - 5, 0};
+    case VERSION: return (demands){1, RAM_BASE, 0, 0, 0, 7};
+    default: return (demands){1, RAM_BASE, 0, 0, 0, 0};
     }
 }
 
@@ -129,29 +116,14 @@ uint32_t plain_execute(uint32_t opcode, size_t length, const plain_memories *m, 
         return reason;
     *answer = d.answer;
     switch (opcode) {
-    case WRITE:
-        plain.copy(m->ram + (d.address - RAM_BASE), m->work + 4, d.ram);
-        break;
-    case READ:
-        plain.copy(m->work, m->ram + (d.address - RAM_BASE), d.ram);
-        break;
-    case COPY:
-        burn(m->flash + d.offset, m->ram + (d.address - RAM_BASE), d.flash);
-        break;
-    case ERASE:
-        erase(m->flash, d.offset, d.flash);
-        break;
-    case READ_QSPI:
-        plain.copy(m->work, m->flash + d.offset, d.flash);
-        break;
-    case VERSION:
-        plain.copy(m->work, "0.0.0.3", 7);
-        break;
-    case CHIP_ERASE:
-        memset(m->flash, 0xFF, m->flash_len);
-        break;
-    case DIRECT_WRITE:
-        return direct_write(m, d.offset, d.flash);
+    case WRITE: plain.copy(m->ram + (d.address - RAM_BASE), m->work + 4, d.ram); break;
+    case READ: plain.copy(m->work, m->ram + (d.address - RAM_BASE), d.ram); break;
+    case COPY: burn(m->flash + d.offset, m->ram + (d.address - RAM_BASE), d.flash); break;
+    case ERASE: erase(m->flash, d.offset, d.flash); break;
+    case READ_QSPI: plain.copy(m->work, m->flash + d.offset, d.flash); break;
+    case VERSION: plain.copy(m->work, "0.0.0.3", 7); break;
+    case CHIP_ERASE: memset(m->flash, 0xFF, m->flash_len); break;
+    case DIRECT_WRITE: return direct_write(m, d.offset, d.flash);
     }
     return 0;
 }

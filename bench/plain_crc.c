@@ -1,6 +1,7 @@
 /* CRC-16 and CRC-32, bit by bit, with a table of 256 entries, and zlib's. */
-#include <zlib.h>
 #include "plain.h"
+
+#include <zlib.h>
 
 static uint16_t table16[256];
 static uint32_t table32[256];

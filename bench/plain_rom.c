@@ -2,8 +2,18 @@
 #include "plain.h"
 
 enum {
-    SEND_STX, TAKE_SOH, TAKE_LOW, TAKE_HIGH, TAKE_EXTENDED_LOW, TAKE_EXTENDED_HIGH,
-    SEND_ACK, TAKE_CODE, SEND_XOR, TAKE_ACK, SEND_NAK, RUNNING
+    SEND_STX,
+    TAKE_SOH,
+    TAKE_LOW,
+    TAKE_HIGH,
+    TAKE_EXTENDED_LOW,
+    TAKE_EXTENDED_HIGH,
+    SEND_ACK,
+    TAKE_CODE,
+    SEND_XOR,
+    TAKE_ACK,
+    SEND_NAK,
+    RUNNING
 };
 
 static int is_sound(const uint32_t *r, size_t ram_len)
@@ -73,15 +83,9 @@ static void take(uint32_t *r, uint8_t byte, size_t ram_len)
         r[HELD] = byte;
         r[PHASE]++;
         break;
-    case TAKE_HIGH:
-        take_high(r, byte, ram_len);
-        break;
-    case TAKE_EXTENDED_HIGH:
-        judge(r, 65536 + (size_t)r[HELD] + 256 * (size_t)byte, ram_len);
-        break;
-    default:
-        take_ack(r, byte);
-        break;
+    case TAKE_HIGH: take_high(r, byte, ram_len); break;
+    case TAKE_EXTENDED_HIGH: judge(r, 65536 + (size_t)r[HELD] + 256 * (size_t)byte, ram_len); break;
+    default: take_ack(r, byte); break;
     }
 }
 
@@ -110,18 +114,10 @@ static uint8_t xor_of(const uint8_t *bytes, size_t count)
 static uint8_t send(uint32_t *r, const uint8_t *ram)
 {
     switch (r[PHASE]) {
-    case SEND_STX:
-        r[PHASE] = TAKE_SOH;
-        return STX;
-    case SEND_ACK:
-        r[PHASE] = TAKE_CODE;
-        return ACK;
-    case SEND_XOR:
-        r[PHASE] = TAKE_ACK;
-        return xor_of(ram, r[LENGTH]);
-    default:
-        r[PHASE] = SEND_STX;
-        return NAK;
+    case SEND_STX: r[PHASE] = TAKE_SOH; return STX;
+    case SEND_ACK: r[PHASE] = TAKE_CODE; return ACK;
+    case SEND_XOR: r[PHASE] = TAKE_ACK; return xor_of(ram, r[LENGTH]);
+    default: r[PHASE] = SEND_STX; return NAK;
     }
 }
 
@@ -142,21 +138,21 @@ und_report plain_rom_call(uint32_t record[8], const uint8_t *input, size_t input
 {
     size_t taken = 0, sent = 0;
     if (ram_len < 1 || ram_len > 131072)
-        return (und_report){ 2, 0, 0, 0 };
+        return (und_report){2, 0, 0, 0};
     if (!is_sound(record, ram_len))
-        return (und_report){ 4, 0, 0, 0 };
+        return (und_report){4, 0, 0, 0};
     for (;;) {
         uint32_t phase = record[PHASE];
         if (phase == RUNNING)
-            return (und_report){ 0, 3, taken, sent };
+            return (und_report){0, 3, taken, sent};
         if (sends(phase)) {
             if (sent == reply_len)
-                return (und_report){ 0, 2, taken, sent };
+                return (und_report){0, 2, taken, sent};
             reply[sent++] = send(record, ram);
             continue;
         }
         if (taken == input_len)
-            return (und_report){ 0, 1, taken, sent };
+            return (und_report){0, 1, taken, sent};
         if (phase == TAKE_CODE)
             taken += take_code(record, input + taken, input_len - taken, ram);
         else

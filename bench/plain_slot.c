@@ -22,7 +22,7 @@ static int valid_id(const uint8_t *flash, size_t flash_len, size_t offset)
 
 und_selected plain_select(const uint8_t *flash, size_t flash_len, uint32_t header_offset)
 {
-    und_selected s = { 0, 0 };
+    und_selected s = {0, 0};
     if (flash_len == 0 || flash_len % 4096 != 0 || flash_len > 4194304)
         s.number = 3;
     else if (header_offset > flash_len || flash_len - header_offset < 12)

@@ -1,11 +1,29 @@
-/* The uartboot session in plain C: the payload goes to the work buffer, its CRC is summed once for the two bytes that are sent. */
+/* The uartboot session in plain C: the payload goes to the work buffer, its CRC is summed once for the two bytes that
+   are sent. */
 #include "plain.h"
 #include "plain_command.h"
 
 enum {
-    GREETING, TAKE_SOH, TAKE_OPCODE, TAKE_LOW, TAKE_HIGH, SEND_ACK, TAKE_PAYLOAD, SEND_PAYLOAD_ACK, SEND_CRC_LOW, SEND_CRC_HIGH,
-    TAKE_GO, SEND_LENGTH_LOW, SEND_LENGTH_HIGH, TAKE_ANSWER_GO, SEND_ANSWER, TAKE_CRC_LOW, TAKE_CRC_HIGH, SEND_ANSWER_ACK,
-    SEND_NAK, RUNNING
+    GREETING,
+    TAKE_SOH,
+    TAKE_OPCODE,
+    TAKE_LOW,
+    TAKE_HIGH,
+    SEND_ACK,
+    TAKE_PAYLOAD,
+    SEND_PAYLOAD_ACK,
+    SEND_CRC_LOW,
+    SEND_CRC_HIGH,
+    TAKE_GO,
+    SEND_LENGTH_LOW,
+    SEND_LENGTH_HIGH,
+    TAKE_ANSWER_GO,
+    SEND_ANSWER,
+    TAKE_CRC_LOW,
+    TAKE_CRC_HIGH,
+    SEND_ANSWER_ACK,
+    SEND_NAK,
+    RUNNING
 };
 
 static int is_sound(const uint32_t *r, const plain_memories *m)
@@ -84,9 +102,7 @@ static void take_crc_high(uint32_t *r, uint8_t byte, const plain_memories *m)
 static void take(uint32_t *r, uint8_t byte, const plain_memories *m)
 {
     switch (r[PHASE]) {
-    case TAKE_SOH:
-        r[PHASE] = byte == SOH ? TAKE_OPCODE : TAKE_SOH;
-        break;
+    case TAKE_SOH: r[PHASE] = byte == SOH ? TAKE_OPCODE : TAKE_SOH; break;
     case TAKE_OPCODE:
         r[OPCODE] = byte;
         r[PHASE] = TAKE_LOW;
@@ -96,9 +112,7 @@ static void take(uint32_t *r, uint8_t byte, const plain_memories *m)
         r[HELD] = byte;
         r[PHASE]++;
         break;
-    case TAKE_HIGH:
-        take_high(r, byte, m);
-        break;
+    case TAKE_HIGH: take_high(r, byte, m); break;
     case TAKE_GO:
         if (byte == ACK)
             execute(r, m);
@@ -111,9 +125,7 @@ static void take(uint32_t *r, uint8_t byte, const plain_memories *m)
         else
             start_again(r, GREETING, 20);
         break;
-    default:
-        take_crc_high(r, byte, m);
-        break;
+    default: take_crc_high(r, byte, m); break;
     }
 }
 
@@ -150,7 +162,7 @@ static size_t send_answer(uint32_t *r, uint8_t *reply, size_t reply_len, const u
 
 static uint8_t send_greeting(uint32_t *r)
 {
-    static const uint8_t greeting[4] = { 0x02, 0x01, 0x00, 0x03 };
+    static const uint8_t greeting[4] = {0x02, 0x01, 0x00, 0x03};
     uint8_t byte = greeting[r[PLACE]++];
     if (r[PLACE] == 4) {
         r[PHASE] = TAKE_SOH;
@@ -173,32 +185,18 @@ static uint8_t send_ack(uint32_t *r, const plain_memories *m)
 static uint8_t send(uint32_t *r, const plain_memories *m)
 {
     switch (r[PHASE]) {
-    case GREETING:
-        return send_greeting(r);
-    case SEND_ACK:
-        return send_ack(r, m);
-    case SEND_PAYLOAD_ACK:
-        r[PHASE] = SEND_CRC_LOW;
-        return ACK;
+    case GREETING: return send_greeting(r);
+    case SEND_ACK: return send_ack(r, m);
+    case SEND_PAYLOAD_ACK: r[PHASE] = SEND_CRC_LOW; return ACK;
     case SEND_CRC_LOW:
         r[PHASE] = SEND_CRC_HIGH;
         r[CRC] = plain.crc16(m->work, r[LENGTH]);
         return (uint8_t)r[CRC];
-    case SEND_CRC_HIGH:
-        r[PHASE] = TAKE_GO;
-        return (uint8_t)(r[CRC] >> 8);
-    case SEND_LENGTH_LOW:
-        r[PHASE] = SEND_LENGTH_HIGH;
-        return (uint8_t)r[LENGTH];
-    case SEND_LENGTH_HIGH:
-        r[PHASE] = TAKE_ANSWER_GO;
-        return (uint8_t)(r[LENGTH] >> 8);
-    case SEND_ANSWER_ACK:
-        start_again(r, GREETING, r[REASON]);
-        return ACK;
-    default:
-        start_again(r, GREETING, r[REASON]);
-        return NAK;
+    case SEND_CRC_HIGH: r[PHASE] = TAKE_GO; return (uint8_t)(r[CRC] >> 8);
+    case SEND_LENGTH_LOW: r[PHASE] = SEND_LENGTH_HIGH; return (uint8_t)r[LENGTH];
+    case SEND_LENGTH_HIGH: r[PHASE] = TAKE_ANSWER_GO; return (uint8_t)(r[LENGTH] >> 8);
+    case SEND_ANSWER_ACK: start_again(r, GREETING, r[REASON]); return ACK;
+    default: start_again(r, GREETING, r[REASON]); return NAK;
     }
 }
 
@@ -216,10 +214,10 @@ static und_report act(uint32_t *r, const uint8_t *input, size_t input_len, uint8
     for (;;) {
         uint32_t phase = r[PHASE];
         if (phase == RUNNING)
-            return (und_report){ 0, 3, taken, sent };
+            return (und_report){0, 3, taken, sent};
         if (sends(phase)) {
             if (sent == reply_len)
-                return (und_report){ 0, 2, taken, sent };
+                return (und_report){0, 2, taken, sent};
             if (phase == SEND_ANSWER)
                 sent += send_answer(r, reply + sent, reply_len - sent, m->work);
             else
@@ -227,7 +225,7 @@ static und_report act(uint32_t *r, const uint8_t *input, size_t input_len, uint8
             continue;
         }
         if (taken == input_len)
-            return (und_report){ 0, 1, taken, sent };
+            return (und_report){0, 1, taken, sent};
         if (phase == TAKE_PAYLOAD)
             taken += take_payload(r, input + taken, input_len - taken, m);
         else
@@ -242,17 +240,18 @@ void plain_uartboot_fresh(uint32_t record[8])
     record[KIND] = 2;
 }
 
-und_report plain_uartboot_call(uint32_t record[8], const uint8_t *input, size_t input_len, uint8_t *reply, size_t reply_len,
-                               uint8_t *ram, size_t ram_len, uint8_t *flash, size_t flash_len, uint8_t *work, size_t work_len)
+und_report plain_uartboot_call(uint32_t record[8], const uint8_t *input, size_t input_len, uint8_t *reply,
+                               size_t reply_len, uint8_t *ram, size_t ram_len, uint8_t *flash, size_t flash_len,
+                               uint8_t *work, size_t work_len)
 {
-    plain_memories m = { ram, ram_len, flash, flash_len, work, work_len };
+    plain_memories m = {ram, ram_len, flash, flash_len, work, work_len};
     if (work_len < 64 || work_len > 65535)
-        return (und_report){ 1, 0, 0, 0 };
+        return (und_report){1, 0, 0, 0};
     if (ram_len < 1 || ram_len > 131072)
-        return (und_report){ 2, 0, 0, 0 };
+        return (und_report){2, 0, 0, 0};
     if (flash_len == 0 || flash_len % 4096 != 0 || flash_len > 4194304)
-        return (und_report){ 3, 0, 0, 0 };
+        return (und_report){3, 0, 0, 0};
     if (!is_sound(record, &m))
-        return (und_report){ 4, 0, 0, 0 };
+        return (und_report){4, 0, 0, 0};
     return act(record, input, input_len, reply, reply_len, &m);
 }

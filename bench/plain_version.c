@@ -26,8 +26,8 @@ static int all_zero(const uint8_t *field, size_t at)
 
 und_ranked plain_rank(const uint8_t *field, size_t field_len)
 {
-    const und_ranked refused = { 61, { 0, 0, 0, 0 } };
-    und_ranked ranked = { 0, { 0, 0, 0, 0 } };
+    const und_ranked refused = {61, {0, 0, 0, 0}};
+    und_ranked ranked = {0, {0, 0, 0, 0}};
     size_t at = 0;
     if (field_len != 16)
         return refused;

@@ -1,12 +1,18 @@
-/* A ROM load, and a uartboot command with its whole exchange: greeting, header, payload, CRC, 06, answer, the host's CRC. */
-#include <stdlib.h>
-#include <string.h>
+/* A ROM load, and a uartboot command with its whole exchange: greeting, header, payload, CRC, 06, answer, the host's
+   CRC. */
 #include "plain.h"
 #include "plain_command.h"
 #include "subjects.h"
 
+#include <stdlib.h>
+#include <string.h>
+
 enum {
-    RAM = 131072, FLASH = 131072, WORK = 65535, INPUT = 131072 + 64, REPLY = 65535 + 64,
+    RAM = 131072,
+    FLASH = 131072,
+    WORK = 65535,
+    INPUT = 131072 + 64,
+    REPLY = 65535 + 64,
     TARGET = 3072 /* where in RAM and flash a command writes or reads */
 };
 
@@ -22,8 +28,8 @@ static side ours, theirs;
 static uint8_t *input;
 static size_t input_len;
 
-/* Buffers begin at other places of their pages. A copy between two that begin at the same place would at times be slowed down by
-   loads that seem to hit earlier stores, the library and plain C not alike. */
+/* Buffers begin at other places of their pages. A copy between two that begin at the same place would at times be
+   slowed down by loads that seem to hit earlier stores, the library and plain C not alike. */
 static void make_room(side *d)
 {
     d->ram = room_at(2048, RAM);
@@ -121,7 +127,8 @@ static size_t part(size_t left, size_t piece)
     return piece != 0 && piece < left ? piece : left;
 }
 
-/* Whether there is more to do at a standing: room is wanted, or a byte and there are more. A refused call's standing is 0. */
+/* Whether there is more to do at a standing: room is wanted, or a byte and there are more. A refused call's standing is
+   0. */
 static int goes_on(uint32_t standing, size_t left)
 {
     return standing == 2 || (standing == 1 && left > 0);
@@ -135,15 +142,15 @@ static void keep(side *d, uint32_t standing, size_t taken, size_t sent)
 }
 
 typedef und_report rom_call(uint32_t *, const uint8_t *, size_t, uint8_t *, size_t, uint8_t *, size_t);
-typedef und_report uartboot_call(uint32_t *, const uint8_t *, size_t, uint8_t *, size_t, uint8_t *, size_t, uint8_t *, size_t,
-                                 uint8_t *, size_t);
+typedef und_report uartboot_call(uint32_t *, const uint8_t *, size_t, uint8_t *, size_t, uint8_t *, size_t, uint8_t *,
+                                 size_t, uint8_t *, size_t);
 
 static void load(side *d, size_t piece, rom_call *call)
 {
     size_t taken = 0, sent = 0;
     for (;;) {
-        und_report r = call(d->record, input + taken, part(input_len - taken, piece), d->reply + sent, part(REPLY - sent, piece),
-                            d->ram, RAM);
+        und_report r = call(d->record, input + taken, part(input_len - taken, piece), d->reply + sent,
+                            part(REPLY - sent, piece), d->ram, RAM);
         taken += r.taken;
         sent += r.sent;
         if (!goes_on(r.standing, input_len - taken)) {
@@ -157,8 +164,8 @@ static void talk(side *d, size_t piece, uartboot_call *call)
 {
     size_t taken = 0, sent = 0;
     for (;;) {
-        und_report r = call(d->record, input + taken, part(input_len - taken, piece), d->reply + sent, part(REPLY - sent, piece),
-                            d->ram, RAM, d->flash, FLASH, d->work, WORK);
+        und_report r = call(d->record, input + taken, part(input_len - taken, piece), d->reply + sent,
+                            part(REPLY - sent, piece), d->ram, RAM, d->flash, FLASH, d->work, WORK);
         taken += r.taken;
         sent += r.sent;
         if (!goes_on(r.standing, input_len - taken)) {
@@ -195,7 +202,7 @@ int session_same(void)
 {
     return ours.taken == input_len && ours.standing != 0 && ours.record[REASON] == 0 && theirs.taken == ours.taken &&
            theirs.sent == ours.sent && theirs.standing == ours.standing &&
-           memcmp(theirs.record, ours.record, CRC * sizeof ours.record[0]) == 0 && memcmp(theirs.ram, ours.ram, RAM) == 0 &&
-           memcmp(theirs.flash, ours.flash, FLASH) == 0 && memcmp(theirs.work, ours.work, WORK) == 0 &&
-           memcmp(theirs.reply, ours.reply, REPLY) == 0;
+           memcmp(theirs.record, ours.record, CRC * sizeof ours.record[0]) == 0 &&
+           memcmp(theirs.ram, ours.ram, RAM) == 0 && memcmp(theirs.flash, ours.flash, FLASH) == 0 &&
+           memcmp(theirs.work, ours.work, WORK) == 0 && memcmp(theirs.reply, ours.reply, REPLY) == 0;
 }

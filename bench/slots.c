@@ -1,7 +1,8 @@
 /* Selecting between two valid images with codes of `size` bytes each. */
-#include <string.h>
 #include "plain.h"
 #include "subjects.h"
+
+#include <string.h>
 
 enum { FLASH = 66 * 4096, PRODUCT = 12, HEADER = 64, LARGEST = 131072 };
 

@@ -2,8 +2,9 @@
 #ifndef SUBJECTS_H
 #define SUBJECTS_H
 
-#include <stdint.h>
 #include "measure.h"
+
+#include <stdint.h>
 
 /* Numbers that look random and are the same in every run. */
 uint32_t some_number(void);

@@ -1,8 +1,9 @@
 /* Ranking version fields: one to four numbers each, one field of sixteen malformed. */
-#include <stdio.h>
-#include <string.h>
 #include "plain.h"
 #include "subjects.h"
+
+#include <stdio.h>
+#include <string.h>
 
 enum { MOST = 1024, FIELD = 16 };
 
@@ -15,7 +16,8 @@ static void put_version(uint8_t *field)
     char text[32] = "";
     int length = 0;
     for (uint32_t left = some_number() % 4 + 1; left > 0; left--)
-        length += snprintf(text + length, sizeof text - (size_t)length, "%u%s", some_number() % 1000, left > 1 ? "." : "");
+        length +=
+            snprintf(text + length, sizeof text - (size_t)length, "%u%s", some_number() % 1000, left > 1 ? "." : "");
     memset(field, 0, FIELD);
     memcpy(field, text, (size_t)length);
     if (some_number() % 16 == 0)

@@ -1,8 +1,8 @@
 /* Undalisho: the serial boot line of Dialog chips.
  *
  * It plays a chip's end of the line (the boot ROM's receiver, and the loader uartboot), makes the frame that a host
- * sends to the receiver, names the flash slot that will start, orders versions, says what headers and commands hold, and
- * makes headers. What a function gives and writes follows from its arguments alone.
+ * sends to the receiver, names the flash slot that will start, orders versions, says what headers and commands hold,
+ * and makes headers. What a function gives and writes follows from its arguments alone.
  *
  * For x86-64 Linux. To compile and link:
  *
@@ -42,9 +42,7 @@ enum {
 };
 
 /* A byte of flash that is erased. */
-enum {
-    UND_FLASH_BLANK = 0xFF
-};
+enum { UND_FLASH_BLANK = 0xFF };
 
 /* The line's bytes. */
 enum {
@@ -146,10 +144,7 @@ typedef struct {
 und_selected und_select(const uint8_t *flash, size_t flash_len, uint32_t header_offset);
 
 /* The files of an offer. */
-enum {
-    UND_FILE_INSTALLED = 1,
-    UND_FILE_CANDIDATE = 2
-};
+enum { UND_FILE_INSTALLED = 1, UND_FILE_CANDIDATE = 2 };
 
 typedef struct {
     uint32_t number;
@@ -181,7 +176,7 @@ enum {
 };
 
 typedef struct {
-    uint32_t rule;        /* the first rule that the image breaks; 0: it is valid */
+    uint32_t rule; /* the first rule that the image breaks; 0: it is valid */
     uint32_t id;
     uint32_t size;        /* of the code, as the header has it */
     size_t version_place; /* where the version field begins in the memory */
@@ -217,8 +212,8 @@ typedef struct {
     uint8_t bytes[64]; /* the header; all 00 when refused */
 } und_image_header;
 
-/* The image header of a code. Header and code, one behind the other, are a valid image: at any offset of a flash, and as
- * a file. The reserved bytes are 00.
+/* The image header of a code. Header and code, one behind the other, are a valid image: at any offset of a flash, and
+ * as a file. The reserved bytes are 00.
  *
  * Number:  0
  *          41  code_len is 0
@@ -297,11 +292,7 @@ enum {
 };
 
 /* A report's standing. */
-enum {
-    UND_WANTS_BYTE = 1,
-    UND_WANTS_ROOM = 2,
-    UND_RUNS = 3
-};
+enum { UND_WANTS_BYTE = 1, UND_WANTS_ROOM = 2, UND_RUNS = 3 };
 
 typedef struct {
     uint32_t number;
@@ -363,8 +354,8 @@ void und_rom_fresh(uint32_t kind, uint32_t record[8]);
  *          2   ram_len is not a length that RAM may have
  *          4   the record is unsound: an unknown kind, a phase that the kind does not have, in phases 6 to 9 a length
  *              that is 0 or above ram_len, in phase 7 a place that is not below the length, in any other phase one that
- *              is not 0, in phase 11 an address outside of RAM. A record of kind P or E that was handed out for a RAM of
- *              this length is never refused.
+ *              is not 0, in phase 11 an address outside of RAM. A record of kind P or E that was handed out for a RAM
+ *              of this length is never refused.
  * Writes:  the record; the reply's first `sent` bytes; the code bytes that it took, in RAM
  */
 und_report und_rom_call(uint32_t record[8], const uint8_t *input, size_t input_len, uint8_t *reply, size_t reply_len,
@@ -457,8 +448,8 @@ void und_uartboot_fresh(uint32_t record[8]);
  *          4   the record is unsound: a kind that is not UND_KIND_UARTBOOT, an unknown phase, in phases 5 to 17 an
  *              unknown opcode, a phase or a payload length that the opcode does not have, a length above work_len or an
  *              answer of length 0, in phase 19 an opcode that is not UND_OP_RUN or an address outside of RAM, in phases
- *              6 and 14 a place that is not below the length, in phase 0 one that is not below 4, in any other phase one
- *              that is not 0. A record that was handed out for memories of these lengths is never refused.
+ *              6 and 14 a place that is not below the length, in phase 0 one that is not below 4, in any other phase
+ *              one that is not 0. A record that was handed out for memories of these lengths is never refused.
  * Writes:  the record; the reply's first `sent` bytes; RAM, flash and work buffer as the commands say
  */
 und_report und_uartboot_call(uint32_t record[8], const uint8_t *input, size_t input_len, uint8_t *reply,

@@ -1,6 +1,5 @@
-/* What undalisho.h says of lengths, kinds, standings, words, places, addresses, files, rules, line bytes and NULL, asked of
- * the library. phases.c asks which words each phase uses.
- */
+/* What undalisho.h says of lengths, kinds, standings, words, places, addresses, files, rules, line bytes and NULL,
+   asked of the library. phases.c asks which words each phase uses. */
 #include "hold.h"
 #include "undalisho.h"
 
@@ -71,7 +70,8 @@ static void words(void)
     HOLD(record[UND_RECORD_REASON] == 11);
 }
 
-/* The number of a call with nothing to take, once a word of the record holds something else; the record is then as before. */
+/* The number of a call with nothing to take, once a word of the record holds something else; the record is then as
+   before. */
 static uint32_t number_once(int word, uint32_t value)
 {
     uint32_t kept[UND_RECORD_WORDS], number;
@@ -93,14 +93,15 @@ static void places(void)
     und_uartboot_fresh(record);
     HOLD(number_once(UND_RECORD_PLACE, 3) == 0 && number_once(UND_RECORD_PLACE, 4) == 4);
     to_uartboot(NULL, 0);
-    HOLD(record[UND_RECORD_PHASE] == 1 && number_once(UND_RECORD_PLACE, 0) == 0 && number_once(UND_RECORD_PLACE, 1) == 4);
+    HOLD(record[UND_RECORD_PHASE] == 1 && number_once(UND_RECORD_PLACE, 0) == 0 &&
+         number_once(UND_RECORD_PLACE, 1) == 4);
 }
 
 static void first_address(void)
 {
     static const uint8_t frame[] = {0x01, 0x01, 0x00, 0x11, 0x06};
-    const uint8_t run[] = {0x01, 0x05, 0x04, 0x00, UND_RAM_FIRST & 0xFF, UND_RAM_FIRST >> 8 & 0xFF,
-                           UND_RAM_FIRST >> 16 & 0xFF, UND_RAM_FIRST >> 24, 0x06};
+    enum { FIRST = UND_RAM_FIRST };
+    const uint8_t run[] = {1, 5, 4, 0, FIRST & 0xFF, FIRST >> 8 & 0xFF, FIRST >> 16 & 0xFF, FIRST >> 24, 6};
 
     HOLD(to_receiver(UND_KIND_E, frame, sizeof frame, sizeof reply).standing == UND_RUNS);
     HOLD(record[UND_RECORD_HELD] == UND_RAM_FIRST && number_once(UND_RECORD_HELD, UND_RAM_FIRST - 1) == 4);

@@ -1,4 +1,5 @@
-/* Says which words of a record each phase uses, in the lines that phases.py makes of the header's tables: asked of the library. */
+/* Says which words of a record each phase uses, in the lines that phases.py makes of the header's tables: asked of the
+   library. */
 #include "undalisho.h"
 
 #include <stdio.h>
@@ -9,7 +10,8 @@ enum { RAM = 16, LENGTH = 8, HELD = UND_RAM_FIRST + 1, OPCODES = 256, PHASES = 6
 static uint8_t ram[RAM], flash[UND_FLASH_SECTOR], work[UND_WORK_MIN];
 static uint32_t record[UND_RECORD_WORDS];
 
-/* A call with no input and no room: whether it accepts such a record. The words that the phase uses are then left in it. */
+/* A call with no input and no room: whether it accepts such a record. The words that the phase uses are then left in
+   it. */
 static int accepts(uint32_t kind, uint32_t phase, uint32_t opcode, uint32_t place)
 {
     const uint32_t words[UND_RECORD_WORDS] = {kind, phase, opcode, LENGTH, place, HELD, 77, 88};
@@ -60,7 +62,9 @@ static void say_phase(const char *name, uint32_t kind, uint32_t phase)
     if (record[UND_RECORD_LENGTH] == LENGTH)
         words[count++] = "length";
     if (places != 1)
-        words[count++] = places == LENGTH ? "place (below the length)" : places == 4 ? "place (below 4)" : "place (any)";
+        words[count++] = places == LENGTH ? "place (below the length)"
+                         : places == 4    ? "place (below 4)"
+                                          : "place (any)";
     if (record[UND_RECORD_HELD] == HELD)
         words[count++] = "held";
     printf("%s %u: ", name, (unsigned)phase);

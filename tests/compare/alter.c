@@ -1,4 +1,5 @@
 #include "alter.h"
+
 #include "seen.h"
 #include "streams.h"
 
@@ -56,7 +57,8 @@ static void alter_payload(trial *t, desk *d)
 static bool holds_payload(const desk *d)
 {
     const uint32_t *r = d->model_record;
-    return d->kind == KIND_UARTBOOT && r[WORD_PHASE] >= 7 && r[WORD_PHASE] <= 10 && r[WORD_LENGTH] <= d->model.work_length;
+    return d->kind == KIND_UARTBOOT && r[WORD_PHASE] >= 7 && r[WORD_PHASE] <= 10 &&
+           r[WORD_LENGTH] <= d->model.work_length;
 }
 
 alters draw_alters(trial *t, uint32_t kind)

@@ -1,4 +1,5 @@
 #include "desk.h"
+
 #include "lend.h"
 #include "met.h"
 #include "undalisho.h"
@@ -7,7 +8,12 @@
 #include <string.h>
 
 /* A little longer than the longest that are accepted. */
-enum { RAM_SHELF = MOST_RAM + 64, FLASH_SHELF = MOST_FLASH + 2 * SECTOR, WORK_SHELF = MOST_WORK + 64, LINE_SHELF = 1 << 20 };
+enum {
+    RAM_SHELF = MOST_RAM + 64,
+    FLASH_SHELF = MOST_FLASH + 2 * SECTOR,
+    WORK_SHELF = MOST_WORK + 64,
+    LINE_SHELF = 1 << 20
+};
 
 static struct {
     shelf record, input, reply, ram, flash, work;
@@ -134,8 +140,9 @@ model_report desk_call(trial *t, desk *d, const uint8_t *input, size_t shown, si
     model_line line = {input, shown, 0, model_reply, room, 0};
     model_report want = d->kind == KIND_UARTBOOT ? model_uartboot_call(d->model_record, &line, &d->model)
                                                  : model_rom_call(d->model_record, &line, &d->model);
-    tell(t, "call: shown %zu, room %zu: number %u, standing %u, taken %zu, sent %zu, phase %u, reason %u\n", shown, room,
-         want.number, want.standing, want.taken, want.sent, d->model_record[WORD_PHASE], d->model_record[WORD_REASON]);
+    tell(t, "call: shown %zu, room %zu: number %u, standing %u, taken %zu, sent %zu, phase %u, reason %u\n", shown,
+         room, want.number, want.standing, want.taken, want.sent, d->model_record[WORD_PHASE],
+         d->model_record[WORD_REASON]);
     meeting_after(&met, d, &want);
     same_number(t, "number", got.number, want.number);
     same_number(t, "standing", got.standing, want.standing);

@@ -1,4 +1,5 @@
 #include "figures.h"
+
 #include "fill.h"
 #include "undalisho.h"
 
@@ -56,18 +57,20 @@ static void slot_figure(trial *t, uint8_t first, uint8_t second, uint32_t slot)
 /* The headers for that code, id 9, version 1.10 and a time, and for two offsets, byte by byte. */
 static void header_figures(trial *t)
 {
-    static const uint8_t image[IMAGE_HEADER] = {0x70, 0x51, 0xAA, 9, 9, 0, 0, 0, 0x26, 0x39, 0xF4, 0xCB, '1', '.', '1', '0',
-                                                [28] = 0x04, 0x03, 0x02, 0x81};
+    static const uint8_t image[IMAGE_HEADER] = {
+        0x70, 0x51, 0xAA, 9, 9, 0, 0, 0, 0x26, 0x39, 0xF4, 0xCB, '1', '.', '1', '0', [28] = 0x04, 0x03, 0x02, 0x81,
+    };
     static const uint8_t product[] = {0x70, 0x52, 0, 0, 0x00, 0x10, 0, 0, 0x78, 0x56, 0x34, 0x12};
     const uint8_t *code = (const uint8_t *)"123456789";
     uint8_t version[VERSION_FIELD];
     field_of("1.10", version);
     und_image_header got = und_make_image_header(code, 9, 9, version, sizeof version, 0x81020304);
     model_image_header model = model_make_image_header(code, 9, 9, version, sizeof version, 0x81020304);
-    if (got.number != 0 || model.number != 0 || memcmp(got.bytes, image, IMAGE_HEADER) || memcmp(model.bytes, image, IMAGE_HEADER))
+    if (got.number != 0 || model.number != 0 || memcmp(got.bytes, image, IMAGE_HEADER) ||
+        memcmp(model.bytes, image, IMAGE_HEADER))
         differ(t, "figure: image header of 123456789");
-    if (memcmp(und_make_product_header(0x1000, 0x12345678).bytes, product, sizeof product)
-        || memcmp(model_make_product_header(0x1000, 0x12345678).bytes, product, sizeof product))
+    if (memcmp(und_make_product_header(0x1000, 0x12345678).bytes, product, sizeof product) ||
+        memcmp(model_make_product_header(0x1000, 0x12345678).bytes, product, sizeof product))
         differ(t, "figure: product header");
 }
 

@@ -16,6 +16,7 @@ typedef struct {
 #define FLASH_64K 131072, 65536, 65535
 #define FLASH_FULL 16, MOST_FLASH, 64
 
+/* clang-format off */
 static const command_figure commands[] = {
     {"Write to the end of RAM", RAM_FULL, OP_WRITE, BYTES("\x05\x00\xFD\x07"), 65531, 1, 0},
     {"Write past RAM", RAM_FULL, OP_WRITE, BYTES("\x06\x00\xFD\x07"), 65531, 1, 16},
@@ -36,6 +37,7 @@ static const command_figure commands[] = {
     {"Erase of the longest flash", FLASH_FULL, OP_ERASE, BYTES("\x00\x00\x00\x00" "\x00\x00\x40\x00"), 0, 1, 0},
     {"Chip erase of the longest flash", FLASH_FULL, OP_CHIP_ERASE, BYTES(""), 0, 1, 0},
 };
+/* clang-format on */
 
 /* Header, payload, and the host's 06 where there is a payload. Gives the length. */
 static size_t host_bytes(uint8_t *host, const command_figure *c)

@@ -19,9 +19,11 @@ void exchange_from(trial *t, desk *d, const setting *s, const exchange *x)
     const uint8_t *reply;
     desk_set(t, d, s);
     model_report got = desk_call(t, d, (const uint8_t *)x->host, x->host_length, ROOM, &reply);
-    bool same = got.taken == x->host_length && got.sent == x->device_length && memcmp(reply, x->device, x->device_length) == 0;
+    bool same =
+        got.taken == x->host_length && got.sent == x->device_length && memcmp(reply, x->device, x->device_length) == 0;
     const uint32_t *r = d->record;
-    if (!same || r[WORD_PHASE] != x->phase || r[WORD_LENGTH] != x->length || r[WORD_HELD] != x->held || r[WORD_REASON] != x->reason)
+    if (!same || r[WORD_PHASE] != x->phase || r[WORD_LENGTH] != x->length || r[WORD_HELD] != x->held ||
+        r[WORD_REASON] != x->reason)
         differ(t, "figure: exchange of kind %u with %zu host bytes, reason %u", x->kind, x->host_length, x->reason);
 }
 
@@ -31,6 +33,7 @@ void exchange_figure(trial *t, desk *d, const exchange *x)
     exchange_from(t, d, &s, x);
 }
 
+/* clang-format off */
 /* 123456789 written to RAM and read back; the host's CRC-16 of it is B1 29. */
 #define WRITE_AND_READ \
     "\x01\x01\x0D\x00" "\x00\x00\xFC\x07" "123456789" "\x06" \
@@ -41,6 +44,10 @@ void exchange_figure(trial *t, desk *d, const exchange *x)
 
 /* The last byte of a RAM of 16. */
 #define RUN_LAST_BYTE "\x01\x05\x04\x00" "\x0F\x00\xFC\x07" "\x06"
+#define LAST_BYTE_RUNS GREETING "\x06" "\x06" "\x65\x76"
+
+#define VERSION_ANSWERED GREETING "\x06" "\x07\x00" "0.0.0.3"
+/* clang-format on */
 
 static void one_call_figures(trial *t)
 {
@@ -49,10 +56,10 @@ static void one_call_figures(trial *t)
         {KIND_E, 131072, 0, 0, BYTES("\x01\x00\x00\x00\x00"), BYTES("\x02\x06"), 7, 65536, 0, 0},
         {KIND_E, 131072, 0, 0, BYTES("\x01\x00\x00\x01\x00"), BYTES("\x02\x06"), 7, 65537, 0, 0},
         {KIND_E, 131072, 0, 0, BYTES("\x01\xFF\xFF"), BYTES("\x02\x06"), 7, 65535, 0, 0},
-        {KIND_UARTBOOT, 1, 4096, 64, BYTES("\x01\x04\x07\x00"), BYTES("\x02\x01\x00\x03\x15\x02\x01\x00\x03"), 1, 0, 0, 12},
-        {KIND_UARTBOOT, 1, 4096, 64, BYTES("\x01\x0B\x00\x00\x06"), BYTES("\x02\x01\x00\x03\x06\x07\x00" "0.0.0.3"), 15, 7, 0, 0},
+        {KIND_UARTBOOT, 1, 4096, 64, BYTES("\x01\x04\x07\x00"), BYTES(GREETING "\x15" GREETING), 1, 0, 0, 12},
+        {KIND_UARTBOOT, 1, 4096, 64, BYTES("\x01\x0B\x00\x00\x06"), BYTES(VERSION_ANSWERED), 15, 7, 0, 0},
         {KIND_UARTBOOT, 9, 4096, 64, BYTES(WRITE_AND_READ), BYTES(WRITTEN_AND_READ), 1, 0, 0, 0},
-        {KIND_UARTBOOT, 16, 4096, 64, BYTES(RUN_LAST_BYTE), BYTES("\x02\x01\x00\x03\x06\x06\x65\x76"), 19, 0, RAM_BASE + 15, 0},
+        {KIND_UARTBOOT, 16, 4096, 64, BYTES(RUN_LAST_BYTE), BYTES(LAST_BYTE_RUNS), 19, 0, RAM_BASE + 15, 0},
     };
     desk d;
     for (size_t i = 0; i < sizeof figures / sizeof *figures; i++)
@@ -60,7 +67,8 @@ static void one_call_figures(trial *t)
 }
 
 /* A command with a payload that is executed: both sides' flash, which held F0, is then as given. */
-static void flash_figure(trial *t, const char *name, const uint8_t *payload, uint8_t opcode, uint8_t length, const uint8_t *flash)
+static void flash_figure(trial *t, const char *name, const uint8_t *payload, uint8_t opcode, uint8_t length,
+                         const uint8_t *flash)
 {
     enum { FLASH = 3 * SECTOR };
     uint8_t host[32] = {0x01, opcode, length, 0};

@@ -1,4 +1,5 @@
-/* Boot frames at the edges of code and room, and the loads of their bytes into RAM that is just long enough, or one byte shorter. */
+/* Boot frames at the edges of code and room, and the loads of their bytes into RAM that is just long enough, or one
+   byte shorter. */
 #include "figures.h"
 #include "undalisho.h"
 
@@ -39,7 +40,8 @@ static void frame_figure(trial *t, const frame_of *f, size_t room, uint32_t numb
     size_t length = number ? 0 : f->head_length + f->code_length + 1;
     for (int model = 0; model < 2; model++) {
         memset(out, 0xEE, sizeof out);
-        und_framed got = f->kind == KIND_P ? und_frame_p(code, f->code_length, out, room) : und_frame_e(code, f->code_length, out, room);
+        und_framed got = f->kind == KIND_P ? und_frame_p(code, f->code_length, out, room)
+                                           : und_frame_e(code, f->code_length, out, room);
         if (model) {
             memset(out, 0xEE, sizeof out);
             model_framed other = model_frame(f->kind, code, f->code_length, out, room);
@@ -53,7 +55,8 @@ static void frame_figure(trial *t, const frame_of *f, size_t room, uint32_t numb
     }
 }
 
-/* The frame's bytes in one call: the device's 02, 06 and XOR, and the code in RAM, running; or 33 for a RAM that is too short. */
+/* The frame's bytes in one call: the device's 02, 06 and XOR, and the code in RAM, running; or 33 for a RAM that is too
+   short. */
 static void load_figure(trial *t, const frame_of *f, size_t ram_length)
 {
     bool fits = f->code_length <= ram_length;
@@ -64,8 +67,10 @@ static void load_figure(trial *t, const frame_of *f, size_t ram_length)
     for (size_t i = 0; fits && i < f->code_length; i++)
         device[2] ^= code[i];
     desk_set(t, &d, &s);
-    model_report got = desk_call(t, &d, expected, fits ? f->head_length + f->code_length + 1 : f->head_length, 64, &reply);
-    bool same = got.sent == sizeof device && memcmp(reply, device, sizeof device) == 0 && got.standing == (fits ? RUNS : WANTS_BYTE);
+    model_report got =
+        desk_call(t, &d, expected, fits ? f->head_length + f->code_length + 1 : f->head_length, 64, &reply);
+    bool same = got.sent == sizeof device && memcmp(reply, device, sizeof device) == 0 &&
+                got.standing == (fits ? RUNS : WANTS_BYTE);
     if (!same || d.record[WORD_REASON] != (fits ? 0 : 33) || (fits && memcmp(d.library.ram, code, f->code_length) != 0))
         differ(t, "figure: load of kind %u, code %zu, RAM %zu", f->kind, f->code_length, ram_length);
 }

@@ -5,7 +5,8 @@
 
 /* Records that a call with a RAM of 16 bytes refuses with 4. */
 static const uint32_t refused_records[][WORDS] = {
-    /* A place other than 0 where one byte is taken or sent, or none; one at the end of greeting, code, payload or answer. */
+    /* A place other than 0 where one byte is taken or sent, or none; one at the end of greeting, code, payload or
+       answer. */
     {0, 1, 0, 0, 9, 0, 0, 0},
     {0, 0, 0, 0, 1, 0, 0, 0},
     {1, 8, 0, 3, 1, 0, 0, 0},
@@ -30,7 +31,8 @@ static const uint32_t refused_records[][WORDS] = {
     {2, 19, 261, 0, 0, RAM_BASE, 0, 0},
 };
 
-/* Records that it accepts, with its standing where there is neither input nor room, and the record that it hands out. */
+/* Records that it accepts, with its standing where there is neither input nor room, and the record that it hands
+   out. */
 static const struct {
     uint32_t given[WORDS], standing, handed[WORDS];
 } accepted_records[] = {
@@ -46,7 +48,8 @@ static const struct {
     {{2, 19, 5, 4294967295, 0, RAM_BASE + 15, 9, 9}, RUNS, {2, 19, 5, 0, 0, RAM_BASE + 15, 9, 0}},
 };
 
-static void record_figure(trial *t, const uint32_t given[WORDS], uint32_t number, uint32_t standing, const uint32_t after[WORDS])
+static void record_figure(trial *t, const uint32_t given[WORDS], uint32_t number, uint32_t standing,
+                          const uint32_t after[WORDS])
 {
     bool uartboot = given[WORD_KIND] == KIND_UARTBOOT;
     setting s = setting_of(given[WORD_KIND], 16, uartboot ? SECTOR : 0, uartboot ? 64 : 0);
@@ -56,12 +59,12 @@ static void record_figure(trial *t, const uint32_t given[WORDS], uint32_t number
     desk_set(t, &d, &s);
     model_report got = desk_call(t, &d, NULL, 0, 0, &reply);
     if (got.number != number || got.standing != standing || memcmp(d.record, after, sizeof s.record) != 0)
-        differ(t, "figure: record of kind %u, phase %u, opcode %u, place %u, held %u", given[WORD_KIND], given[WORD_PHASE],
-               given[WORD_OPCODE], given[WORD_PLACE], given[WORD_HELD]);
+        differ(t, "figure: record of kind %u, phase %u, opcode %u, place %u, held %u", given[WORD_KIND],
+               given[WORD_PHASE], given[WORD_OPCODE], given[WORD_PLACE], given[WORD_HELD]);
 }
 
-/* A low byte may be any number, and nothing of it is cut off; any last reason stays until another replaces it. The work buffer begins
-   with 0A 0B, whose CRC is 43AF. */
+/* A low byte may be any number, and nothing of it is cut off; any last reason stays until another replaces it. The work
+   buffer begins with 0A 0B, whose CRC is 43AF. */
 static const struct {
     uint32_t given[WORDS];
     exchange after;
@@ -72,8 +75,10 @@ static const struct {
     {{1, 5, 0, 0, 0, 0xFFFFFFFF, 0, 0}, {KIND_E, 16, 0, 0, BYTES("\xFF"), BYTES("\x15\x02"), 1, 0, 0, 33}},
     {{2, 4, 1, 0, 0, 300, 0, 0}, {KIND_UARTBOOT, 16, 4096, 400, BYTES("\x00\x0A"), BYTES("\x06"), 6, 300, 0, 0}},
     {{2, 4, 1, 0, 0, 401, 0, 0}, {KIND_UARTBOOT, 16, 4096, 400, BYTES("\x00"), BYTES("\x15" GREETING), 1, 0, 0, 13}},
-    {{2, 4, 1, 0, 0, 0xFFFFFFFF, 0, 0}, {KIND_UARTBOOT, 16, 4096, 64, BYTES("\xFF"), BYTES("\x15" GREETING), 1, 0, 0, 13}},
-    {{2, 4, 2, 0, 0, 0xFFFF0006, 0, 0}, {KIND_UARTBOOT, 16, 4096, 64, BYTES("\xFF"), BYTES("\x15" GREETING), 1, 0, 0, 12}},
+    {{2, 4, 1, 0, 0, 0xFFFFFFFF, 0, 0},
+     {KIND_UARTBOOT, 16, 4096, 64, BYTES("\xFF"), BYTES("\x15" GREETING), 1, 0, 0, 13}},
+    {{2, 4, 2, 0, 0, 0xFFFF0006, 0, 0},
+     {KIND_UARTBOOT, 16, 4096, 64, BYTES("\xFF"), BYTES("\x15" GREETING), 1, 0, 0, 12}},
     {{2, 16, 2, 2, 0, 0x43AF, 0, 0}, {KIND_UARTBOOT, 16, 4096, 64, BYTES("\x00"), BYTES("\x06" GREETING), 1, 0, 0, 0}},
     {{2, 16, 2, 2, 0, 0x43AF, 0, 0}, {KIND_UARTBOOT, 16, 4096, 64, BYTES("\x01"), BYTES("\x15" GREETING), 1, 0, 0, 19}},
     {{2, 16, 2, 2, 0, 0xAF, 0, 0}, {KIND_UARTBOOT, 16, 4096, 64, BYTES("\x43"), BYTES("\x06" GREETING), 1, 0, 0, 0}},

@@ -6,8 +6,9 @@
 /* RAM of 16 bytes, flash of 4,096, work buffer of 64. */
 #define UARTBOOT KIND_UARTBOOT, 16, 4096, 64
 #define HEADER_REFUSED BYTES(GREETING "\x15" GREETING), 1, 0, 0
-#define PAYLOAD_REFUSED BYTES(GREETING "\x06" "\x15" GREETING), 1, 0, 0
+#define PAYLOAD_REFUSED BYTES(GREETING "\x06\x15" GREETING), 1, 0, 0
 
+/* clang-format off */
 static const exchange causes[] = {
     /* 11 before 12 and 13, 12 before 13 */
     {UARTBOOT, BYTES("\x01\x06\xFF\xFF"), HEADER_REFUSED, 11},
@@ -28,16 +29,20 @@ static const exchange causes[] = {
     {UARTBOOT, BYTES("\x01\x04\x08\x00" "\x01\x00\x00\x00" "\xFF\xFF\xFF\xFF"), PAYLOAD_REFUSED, 16},
     {UARTBOOT, BYTES("\x01\x04\x08\x00" "\x00\x00\x00\x80" "\x00\x00\x00\x80"), PAYLOAD_REFUSED, 16},
     /* a later reason replaces an earlier one; success doesn't */
-    {UARTBOOT, BYTES("\x01\x06\x00\x00" "\x01\x04\x07\x00"), BYTES(GREETING "\x15" GREETING "\x15" GREETING), 1, 0, 0, 12},
-    {UARTBOOT, BYTES("\x01\x06\x00\x00" "\x01\x0C\x00\x00"), BYTES(GREETING "\x15" GREETING "\x06" GREETING), 1, 0, 0, 11},
+    {UARTBOOT, BYTES("\x01\x06\x00\x00" "\x01\x04\x07\x00"),
+     BYTES(GREETING "\x15" GREETING "\x15" GREETING), 1, 0, 0, 12},
+    {UARTBOOT, BYTES("\x01\x06\x00\x00" "\x01\x0C\x00\x00"),
+     BYTES(GREETING "\x15" GREETING "\x06" GREETING), 1, 0, 0, 11},
     /* the receiver's: a first byte other than 01, length 0, above RAM, no 06 at the end; the load then */
     {KIND_P, 16, 0, 0, BYTES("\x00"), BYTES("\x02\x15\x02"), 1, 0, 0, 31},
     {KIND_E, 16, 0, 0, BYTES("\x06\x15"), BYTES("\x02\x15\x02\x15\x02"), 1, 0, 0, 31},
     {KIND_P, 16, 0, 0, BYTES("\x01\x00\x00"), BYTES("\x02\x15\x02"), 1, 0, 0, 32},
     {KIND_P, 16, 0, 0, BYTES("\x01\x11\x00"), BYTES("\x02\x15\x02"), 1, 0, 0, 33},
     {KIND_E, 65535, 0, 0, BYTES("\x01\x00\x00\x00\x00"), BYTES("\x02\x15\x02"), 1, 0, 0, 33},
-    {KIND_P, 16, 0, 0, BYTES("\x01\x01\x00\x5A\x15" "\x01\x01\x00\x5B\x06"), BYTES("\x02\x06\x5A" "\x02\x06\x5B"), 11, 0, RAM_BASE, 34},
+    {KIND_P, 16, 0, 0, BYTES("\x01\x01\x00\x5A\x15" "\x01\x01\x00\x5B\x06"), BYTES("\x02\x06\x5A" "\x02\x06\x5B"),
+     11, 0, RAM_BASE, 34},
 };
+/* clang-format on */
 
 /* Lengths and records in the order in which they are refused. The unsound record has an unknown phase. */
 static const struct {
@@ -46,10 +51,12 @@ static const struct {
     bool unsound;
     uint32_t number;
 } refused_calls[] = {
-    {KIND_UARTBOOT, 0, 0, 63, true, 1},        {KIND_UARTBOOT, 16, 4096, 65536, false, 1}, {KIND_UARTBOOT, 0, 0, 64, true, 2},
-    {KIND_UARTBOOT, 131073, 100, 64, true, 2}, {KIND_UARTBOOT, 16, 100, 64, true, 3},      {KIND_UARTBOOT, 16, 0, 64, false, 3},
-    {KIND_UARTBOOT, 16, 4097, 64, false, 3},   {KIND_UARTBOOT, 16, 4198400, 64, false, 3}, {KIND_UARTBOOT, 16, 4096, 64, true, 4},
-    {KIND_P, 0, 0, 0, true, 2},                {KIND_E, 131073, 0, 0, true, 2},            {KIND_P, 16, 0, 0, true, 4},
+    {KIND_UARTBOOT, 0, 0, 63, true, 1},      {KIND_UARTBOOT, 16, 4096, 65536, false, 1},
+    {KIND_UARTBOOT, 0, 0, 64, true, 2},      {KIND_UARTBOOT, 131073, 100, 64, true, 2},
+    {KIND_UARTBOOT, 16, 100, 64, true, 3},   {KIND_UARTBOOT, 16, 0, 64, false, 3},
+    {KIND_UARTBOOT, 16, 4097, 64, false, 3}, {KIND_UARTBOOT, 16, 4198400, 64, false, 3},
+    {KIND_UARTBOOT, 16, 4096, 64, true, 4},  {KIND_P, 0, 0, 0, true, 2},
+    {KIND_E, 131073, 0, 0, true, 2},         {KIND_P, 16, 0, 0, true, 4},
 };
 
 static void refused_call_figures(trial *t)
@@ -63,7 +70,8 @@ static void refused_call_figures(trial *t)
             s.record[WORD_PHASE] = 20;
         desk_set(t, &d, &s);
         model_report got = desk_call(t, &d, (const uint8_t *)"\x01\x0B", 2, 8, &reply);
-        bool nothing = got.standing == 0 && got.taken == 0 && got.sent == 0 && memcmp(d.record, s.record, sizeof s.record) == 0;
+        bool nothing =
+            got.standing == 0 && got.taken == 0 && got.sent == 0 && memcmp(d.record, s.record, sizeof s.record) == 0;
         if (got.number != refused_calls[i].number || !nothing)
             differ(t, "figure: refused call %zu", i);
     }

@@ -32,7 +32,8 @@ static size_t room_for(trial *t, size_t frame)
 }
 
 /* The frame's receiver, with RAM enough, ends with the code in RAM, running. */
-static void round_trip(trial *t, uint32_t kind, const uint8_t *frame, size_t frame_length, const uint8_t *code, size_t length)
+static void round_trip(trial *t, uint32_t kind, const uint8_t *frame, size_t frame_length, const uint8_t *code,
+                       size_t length)
 {
     uint32_t record[WORDS];
     uint8_t reply[8];
@@ -61,7 +62,8 @@ void frame_case(trial *t)
         shelf_build(&ram_shelf, LONGEST_CODE);
     }
     uint32_t kind = pick(t->c, 2);
-    size_t length = code_length(t), frame = length + (length > 65535 && kind == KIND_E ? 6 : 4), room = room_for(t, frame);
+    size_t length = code_length(t), frame = length + (length > 65535 && kind == KIND_E ? 6 : 4),
+           room = room_for(t, frame);
     bool at_end = !once_in(t->c, 3);
     uint8_t *code = shelf_lend(&code_shelf, length, at_end), *out = shelf_lend(&out_shelf, room, at_end);
     fill(t->c, kept, length);
@@ -71,7 +73,8 @@ void frame_case(trial *t)
     und_framed got = kind == KIND_P ? und_frame_p(length ? code : NULL, length, room ? out : NULL, room)
                                     : und_frame_e(length ? code : NULL, length, room ? out : NULL, room);
     model_framed want = model_frame(kind, kept, length, want_out, room);
-    tell(t, "frame: kind %u, code %zu, room %zu: number %u, length %zu\n", kind, length, room, want.number, want.length);
+    tell(t, "frame: kind %u, code %zu, room %zu: number %u, length %zu\n", kind, length, room, want.number,
+         want.length);
     seen(kind == KIND_P ? SEEN_FRAME_P_NUMBER : SEEN_FRAME_E_NUMBER, want.number);
     same_number(t, "frame's number", got.number, want.number);
     same_number(t, "frame's length", got.length, want.length);

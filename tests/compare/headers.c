@@ -8,7 +8,10 @@
 #include <string.h>
 
 enum { LONGEST_CODE = MOST_CODE + 64, LONGEST_FIELD = VERSION_FIELD + 8, BEHIND = 32 };
-enum { LONGEST_FILE = IMAGE_HEADER + MOST_CODE + BEHIND, LONGEST_FLASH = 2 * SECTOR + (IMAGE_HEADER + MOST_CODE + SECTOR) / SECTOR * SECTOR };
+enum {
+    LONGEST_FILE = IMAGE_HEADER + MOST_CODE + BEHIND,
+    LONGEST_FLASH = 2 * SECTOR + (IMAGE_HEADER + MOST_CODE + SECTOR) / SECTOR * SECTOR
+};
 
 static shelf code_shelf, version_shelf, file_shelves[2], flash_shelf;
 
@@ -84,7 +87,8 @@ void image_header_case(trial *t)
     build_shelves();
     size_t length = code_length(t), version_length = once_in(t->c, 24) ? pick(t->c, sizeof text) : VERSION_FIELD;
     bool at_end = !once_in(t->c, 3);
-    uint8_t *code = shelf_lend(&code_shelf, length, at_end), *version = shelf_lend(&version_shelf, version_length, at_end);
+    uint8_t *code = shelf_lend(&code_shelf, length, at_end),
+            *version = shelf_lend(&version_shelf, version_length, at_end);
     uint8_t id = (uint8_t)pick(t->c, 256);
     uint32_t time = any_word(t);
     make_version(t, text, sizeof text);

@@ -21,7 +21,8 @@ static uint32_t code_length(trial *t, size_t room)
 /* Writes an image somewhere, often damaged, and gives its offset, often near an edge. */
 static uint64_t place_image(trial *t, uint8_t *flash, size_t length)
 {
-    uint64_t edges[] = {0, SECTOR, length - IMAGE_HEADER, length, 0xFFFFFFFF, 0xFFFFFFFF - IMAGE_HEADER, length - IMAGE_HEADER - 1};
+    uint64_t edges[] = {
+        0, SECTOR, length - IMAGE_HEADER, length, 0xFFFFFFFF, 0xFFFFFFFF - IMAGE_HEADER, length - IMAGE_HEADER - 1};
     uint64_t offset = once_in(t->c, 4) ? near_edges(t->c, edges, sizeof edges / sizeof *edges) & 0xFFFFFFFF
                                        : pick(t->c, (uint32_t)length - IMAGE_HEADER - 1);
     if (offset + IMAGE_HEADER + 1 > length)

@@ -1,4 +1,5 @@
-/* Memory to lend: each shelf lies between two pages that nobody may touch, and bytes beside what is lent are watched. */
+/* Memory to lend: each shelf lies between two pages that nobody may touch, and bytes beside what is lent are
+   watched. */
 #ifndef LEND_H
 #define LEND_H
 

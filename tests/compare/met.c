@@ -1,4 +1,5 @@
 #include "met.h"
+
 #include "records.h"
 
 #include <string.h>
@@ -38,7 +39,8 @@ static void meet_header(meeting *met, const desk *d, uint8_t high)
 }
 
 /* A range against its memory; a Run's is one byte. */
-static void meet_range(meeting *met, seen_what to_end, uint32_t opcode, int64_t start, int64_t count, size_t length, int64_t base)
+static void meet_range(meeting *met, seen_what to_end, uint32_t opcode, int64_t start, int64_t count, size_t length,
+                       int64_t base)
 {
     int64_t behind = start + count - (int64_t)length;
     if (start >= 0 && behind == 0)

@@ -1,5 +1,6 @@
 /* What headers and commands say. */
 #include "readings.h"
+
 #include "fill.h"
 #include "lend.h"
 #include "model.h"

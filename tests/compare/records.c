@@ -1,4 +1,5 @@
 #include "records.h"
+
 #include "fill.h"
 #include "streams.h"
 
@@ -26,7 +27,8 @@ bool is_running(const uint32_t record[WORDS])
 
 static uint32_t any_number(trial *t, const model_memories *m)
 {
-    uint64_t edges[] = {0, 7, m->work_length, m->ram_length, 256, 65536, 0xFFFFFFFF, RAM_BASE, RAM_BASE + m->ram_length};
+    uint64_t edges[] = {0,     7,          m->work_length, m->ram_length,           256,
+                        65536, 0xFFFFFFFF, RAM_BASE,       RAM_BASE + m->ram_length};
     if (once_in(t->c, 2))
         return pick(t->c, 24);
     return (uint32_t)near_edges(t->c, edges, sizeof edges / sizeof *edges);
@@ -41,8 +43,8 @@ static uint32_t draw_place(trial *t, const setting *s)
     return how < 5 ? PICK_OF(t->c, edges) : any_number(t, &s->contents);
 }
 
-/* A command, with its payload: sometimes one with a count that is refused, one as long as the work buffer or longer, or another
-   command's. */
+/* A command, with its payload: sometimes one with a count that is refused, one as long as the work buffer or longer, or
+   another command's. */
 static void draw_command(trial *t, setting *s)
 {
     static planned p;

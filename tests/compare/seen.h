@@ -5,6 +5,7 @@
 #include <stdbool.h>
 #include <stdint.h>
 
+/* clang-format off */
 typedef enum {
     /* numbers, by what gave them */
     SEEN_RANK_NUMBER, SEEN_ORDER_NUMBER, SEEN_SELECT_NUMBER, SEEN_OFFER_NUMBER,
@@ -14,18 +15,22 @@ typedef enum {
     SEEN_RULE, SEEN_COMMAND_OPCODE,
     /* what sessions reached from a fresh record */
     SEEN_STANDING, SEEN_REASON, SEEN_ROM_P, SEEN_ROM_E, SEEN_UARTBOOT, SEEN_OPCODE,
-    /* headers from a fresh record, by opcode: accepted; with too few bytes, too many, more than the work buffer has too, or that alone;
-       unknown ones, 1 where they have more bytes than the work buffer */
-    SEEN_HEADER_ACCEPTED, SEEN_HEADER_SHORT, SEEN_HEADER_LONG, SEEN_HEADER_LONG_ABOVE, SEEN_HEADER_ABOVE, SEEN_HEADER_STRANGE,
-    /* payloads by opcode: refused with each reason, which stand in their order, here and below; ranges that end with their memory, one
-       byte behind it, or at 2^32 and more; ranges from the byte before RAM on; answers as long as the work buffer */
+    /* headers from a fresh record, by opcode: accepted; with too few bytes, too many, more than the work buffer has
+       too, or that alone; unknown ones, 1 where they have more bytes than the work buffer */
+    SEEN_HEADER_ACCEPTED, SEEN_HEADER_SHORT, SEEN_HEADER_LONG, SEEN_HEADER_LONG_ABOVE, SEEN_HEADER_ABOVE,
+    SEEN_HEADER_STRANGE,
+    /* payloads by opcode: refused with each reason, which stand in their order, here and below; ranges that end with
+       their memory, one byte behind it, or at 2^32 and more; ranges from the byte before RAM on; answers as long as the
+       work buffer */
     SEEN_PAYLOAD_14, SEEN_PAYLOAD_15, SEEN_PAYLOAD_16, SEEN_PAYLOAD_17,
     SEEN_RAM_TO_END, SEEN_RAM_PAST_END, SEEN_RAM_WRAPS, SEEN_FLASH_TO_END, SEEN_FLASH_PAST_END, SEEN_FLASH_WRAPS,
     SEEN_RAM_BEFORE, SEEN_ANSWER_FILLS,
-    /* commands by opcode: executed, from a fresh and from a given record; not acknowledged before that, or before the answer */
+    /* commands by opcode: executed, from a fresh and from a given record; not acknowledged before that, or before the
+       answer */
     SEEN_EXECUTED, SEEN_EXECUTED_GIVEN, SEEN_NOT_EXECUTED, SEEN_NOT_ANSWERED,
     /* payloads by opcode that are refused at execution: altered since they were accepted, or given with the record */
-    SEEN_AGAIN_14, SEEN_AGAIN_15, SEEN_AGAIN_16, SEEN_AGAIN_17, SEEN_GIVEN_14, SEEN_GIVEN_15, SEEN_GIVEN_16, SEEN_GIVEN_17,
+    SEEN_AGAIN_14, SEEN_AGAIN_15, SEEN_AGAIN_16, SEEN_AGAIN_17,
+    SEEN_GIVEN_14, SEEN_GIVEN_15, SEEN_GIVEN_16, SEEN_GIVEN_17,
     /* by phase: what the session had taken, or was to send, was altered between two calls */
     SEEN_ALTERED_P, SEEN_ALTERED_E, SEEN_ALTERED_UARTBOOT,
     /* the host's CRC of an answer: 1 its low byte is wrong, 2 its high byte, 3 both */
@@ -34,14 +39,15 @@ typedef enum {
     SEEN_REASON_BEFORE_15, SEEN_REASON_REPLACED, SEEN_REASON_KEPT,
     /* by kind: bytes and room for a session whose code runs; by phase: a low byte of any size in a given record */
     SEEN_RUNNING_SHOWN, SEEN_WIDE_P, SEEN_WIDE_E, SEEN_WIDE_UARTBOOT,
-    /* given records by phase: accepted with the first and with the last place, refused for a place at the end or beyond it alone */
+    /* given records by phase: accepted with the first and with the last place, refused for a place at the end or beyond
+       it alone */
     SEEN_FIRST_PLACE_P, SEEN_FIRST_PLACE_E, SEEN_FIRST_PLACE_UARTBOOT,
     SEEN_LAST_PLACE_P, SEEN_LAST_PLACE_E, SEEN_LAST_PLACE_UARTBOOT,
     SEEN_PLACE_AT_END_P, SEEN_PLACE_AT_END_E, SEEN_PLACE_AT_END_UARTBOOT,
     SEEN_PLACE_BEYOND_P, SEEN_PLACE_BEYOND_E, SEEN_PLACE_BEYOND_UARTBOOT,
-    /* given records refused for one word alone: for the kind, by the session that was called; for the phase, by kind; for a phase that
-       only E has; by phase for an opcode that is unknown or another command's, for a length that is 0, above its memory or another
-       command's; accepted with the longest length */
+    /* given records refused for one word alone: for the kind, by the session that was called; for the phase, by kind;
+       for a phase that only E has; by phase for an opcode that is unknown or another command's, for a length that is 0,
+       above its memory or another command's; accepted with the longest length */
     SEEN_KIND_REFUSED, SEEN_PHASE_REFUSED, SEEN_PHASE_OF_E, SEEN_OPCODE_UNKNOWN, SEEN_OPCODE_OTHER,
     SEEN_LENGTH_ZERO_P, SEEN_LENGTH_ZERO_E, SEEN_LENGTH_ZERO_UARTBOOT,
     SEEN_LENGTH_ABOVE_P, SEEN_LENGTH_ABOVE_E, SEEN_LENGTH_ABOVE_UARTBOOT,
@@ -54,9 +60,17 @@ typedef enum {
     SEEN_RUNNING_ACCEPTED, SEEN_RUNNING_REFUSED,
     SEENS
 } seen_what;
+/* clang-format on */
 
 /* Where an address lies: RAM's first and last byte, the ones beside them, the last ones of 32 bits, any other. */
-typedef enum { ADDRESS_FIRST, ADDRESS_LAST, ADDRESS_BEFORE, ADDRESS_BEHIND, ADDRESS_HIGHEST, ADDRESS_OTHER } seen_address;
+typedef enum {
+    ADDRESS_FIRST,
+    ADDRESS_LAST,
+    ADDRESS_BEFORE,
+    ADDRESS_BEHIND,
+    ADDRESS_HIGHEST,
+    ADDRESS_OTHER
+} seen_address;
 
 void seen(seen_what what, uint32_t number);
 /* Forgets all of it: what figures reached is not for cases to claim. */

@@ -153,7 +153,8 @@ void length_case(trial *t)
     *m = contents_of(FIRST_CONTENTS, some_length(t, rams, 4, MOST_RAM + 32), 0, 0);
     if (kind == KIND_UARTBOOT) {
         m->work_length = some_length(t, works, 6, MOST_WORK + 32);
-        m->flash_length = once_in(t->c, 12) ? some_length(t, large_flashes, 3, MOST_FLASH + SECTOR) : some_length(t, flashes, 7, 3 * SECTOR);
+        m->flash_length = once_in(t->c, 12) ? some_length(t, large_flashes, 3, MOST_FLASH + SECTOR)
+                                            : some_length(t, flashes, 7, 3 * SECTOR);
     }
     fill(t->c, m->ram, m->ram_length);
     fill(t->c, m->flash, m->flash_length);

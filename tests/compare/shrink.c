@@ -1,4 +1,5 @@
 #include "shrink.h"
+
 #include "clock.h"
 
 #include <stdlib.h>

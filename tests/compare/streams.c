@@ -1,4 +1,5 @@
 #include "streams.h"
+
 #include "fill.h"
 
 #include <stdlib.h>
@@ -174,8 +175,8 @@ void plan_bad_count(trial *t, planned *p, const model_memories *memories)
 void plan_command(trial *t, planned *p, const model_memories *memories)
 {
     static const uint8_t opcodes[] = {
-        OP_VERSION, OP_WRITE, OP_READ, OP_COPY, OP_ERASE, OP_DIRECT_WRITE, OP_READ_QSPI, OP_CHIP_ERASE,
-        OP_WRITE, OP_READ, OP_COPY, OP_ERASE, OP_DIRECT_WRITE, OP_READ_QSPI, OP_DIRECT_WRITE, OP_RUN,
+        OP_VERSION, OP_WRITE, OP_READ, OP_COPY,  OP_ERASE,        OP_DIRECT_WRITE, OP_READ_QSPI,    OP_CHIP_ERASE,
+        OP_WRITE,   OP_READ,  OP_COPY, OP_ERASE, OP_DIRECT_WRITE, OP_READ_QSPI,    OP_DIRECT_WRITE, OP_RUN,
     };
     static const uint8_t strangers[] = {0x00, 0x06, 0x07, 0x09, 0x0A, 0x0D, 0x0F, 0x11, 0x13, 0x81, 0xFF};
     p->opcode = PICK_OF(t->c, opcodes);

@@ -25,7 +25,8 @@ typedef struct {
 
 /* The payload of a planned opcode, mostly one that the memories admit. */
 void plan_payload(trial *t, planned *p, const model_memories *memories);
-/* A count of 0, or one above the work buffer's length, from a memory's first byte on, where the planned command has a count. */
+/* A count of 0, or one above the work buffer's length, from a memory's first byte on, where the planned command has a
+   count. */
 void plan_bad_count(trial *t, planned *p, const model_memories *memories);
 /* Mostly a command that they admit. */
 void plan_command(trial *t, planned *p, const model_memories *memories);

@@ -1,4 +1,5 @@
 #include "texts.h"
+
 #include "fill.h"
 
 #include <stdio.h>

@@ -1,4 +1,5 @@
 #include "visit.h"
+
 #include "records.h"
 
 #include <stdlib.h>
@@ -130,7 +131,8 @@ static void expect(const visit *v, ending *e, model_memories *memories)
 static bool lengths_accepted(const visit *v)
 {
     const model_memories *m = &v->start.contents;
-    bool rest = v->start.kind != KIND_UARTBOOT || (model_flash_length(m->flash_length) && model_work_length(m->work_length));
+    bool rest =
+        v->start.kind != KIND_UARTBOOT || (model_flash_length(m->flash_length) && model_work_length(m->work_length));
     return rest && model_ram_length(m->ram_length);
 }
 

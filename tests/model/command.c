@@ -12,9 +12,9 @@ typedef struct {
 } shape;
 
 static const shape shapes[] = {
-    {OP_WRITE, 5, true, false},        {OP_READ, 6, false, true},      {OP_COPY, 10, false, false},
-    {OP_ERASE, 8, false, false},       {OP_RUN, 4, false, false},      {OP_READ_QSPI, 6, false, true},
-    {OP_VERSION, 0, false, true},      {OP_CHIP_ERASE, 0, false, false}, {OP_DIRECT_WRITE, 6, true, false},
+    {OP_WRITE, 5, true, false},   {OP_READ, 6, false, true},        {OP_COPY, 10, false, false},
+    {OP_ERASE, 8, false, false},  {OP_RUN, 4, false, false},        {OP_READ_QSPI, 6, false, true},
+    {OP_VERSION, 0, false, true}, {OP_CHIP_ERASE, 0, false, false}, {OP_DIRECT_WRITE, 6, true, false},
 };
 
 uint32_t model_opcodes(void)

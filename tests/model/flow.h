@@ -1,5 +1,5 @@
-/* A flow written as one text that a call can leave at any take or send and enter there again.
-   Each place has the number of its phase. Used inside `switch (s[WORD_PHASE]) { default: .. }` over a record `s` and a line `l`. */
+/* A flow written as one text that a call can leave at any take or send and enter there again. Each place has the number
+   of its phase. Used inside `switch (s[WORD_PHASE]) { default: .. }` over a record `s` and a line `l`. */
 #ifndef FLOW_H
 #define FLOW_H
 

@@ -19,8 +19,8 @@ static uint8_t *put_fields(uint8_t *at, const field *fields, size_t count)
     return at;
 }
 
-model_image_header model_make_image_header(const uint8_t *code, size_t length, uint8_t id, const uint8_t *version, size_t version_length,
-                                           uint32_t time)
+model_image_header model_make_image_header(const uint8_t *code, size_t length, uint8_t id, const uint8_t *version,
+                                           size_t version_length, uint32_t time)
 {
     model_image_header made = {0, {0}};
     if (length == 0)

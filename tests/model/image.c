@@ -48,7 +48,8 @@ model_selected model_select(const uint8_t *flash, size_t length, uint32_t header
     return (model_selected){0, 1};
 }
 
-model_offered model_offer(const uint8_t *installed, size_t installed_length, const uint8_t *candidate, size_t candidate_length)
+model_offered model_offer(const uint8_t *installed, size_t installed_length, const uint8_t *candidate,
+                          size_t candidate_length)
 {
     image old = image_at(installed, installed_length, 0);
     if (!old.valid)

@@ -37,7 +37,8 @@ typedef struct {
 } model_offered;
 
 model_selected model_select(const uint8_t *flash, size_t length, uint32_t header);
-model_offered model_offer(const uint8_t *installed, size_t installed_length, const uint8_t *candidate, size_t candidate_length);
+model_offered model_offer(const uint8_t *installed, size_t installed_length, const uint8_t *candidate,
+                          size_t candidate_length);
 
 /* What headers and commands say. */
 typedef struct {
@@ -67,15 +68,22 @@ typedef struct {
     uint8_t bytes[PRODUCT_HEADER];
 } model_product_header;
 
-model_image_header model_make_image_header(const uint8_t *code, size_t length, uint8_t id, const uint8_t *version, size_t version_length,
-                                           uint32_t time);
+model_image_header model_make_image_header(const uint8_t *code, size_t length, uint8_t id, const uint8_t *version,
+                                           size_t version_length, uint32_t time);
 model_product_header model_make_product_header(uint32_t first, uint32_t second);
 
 /* Sessions. A record is eight words. */
 enum { KIND_P, KIND_E, KIND_UARTBOOT };
 enum { WORD_KIND, WORD_PHASE, WORD_OPCODE, WORD_LENGTH, WORD_PLACE, WORD_HELD, WORD_REASON, WORD_SPARE, WORDS };
 enum { WANTS_BYTE = 1, WANTS_ROOM = 2, RUNS = 3 };
-enum { RAM_BASE = 0x07FC0000, MOST_RAM = 131072, SECTOR = 4096, MOST_FLASH = 4194304, LEAST_WORK = 64, MOST_WORK = 65535 };
+enum {
+    RAM_BASE = 0x07FC0000,
+    MOST_RAM = 131072,
+    SECTOR = 4096,
+    MOST_FLASH = 4194304,
+    LEAST_WORK = 64,
+    MOST_WORK = 65535
+};
 enum { ACK = 0x06, NAK = 0x15 };
 
 typedef struct {
@@ -107,13 +115,20 @@ model_report model_uartboot_call(uint32_t record[WORDS], model_line *line, const
 
 /* uartboot's commands. */
 enum {
-    OP_WRITE = 0x01, OP_READ = 0x02, OP_COPY = 0x03, OP_ERASE = 0x04, OP_RUN = 0x05,
-    OP_READ_QSPI = 0x08, OP_VERSION = 0x0B, OP_CHIP_ERASE = 0x0C, OP_DIRECT_WRITE = 0x12
+    OP_WRITE = 0x01,
+    OP_READ = 0x02,
+    OP_COPY = 0x03,
+    OP_ERASE = 0x04,
+    OP_RUN = 0x05,
+    OP_READ_QSPI = 0x08,
+    OP_VERSION = 0x0B,
+    OP_CHIP_ERASE = 0x0C,
+    OP_DIRECT_WRITE = 0x12
 };
 
 typedef struct {
-    uint32_t reason;  /* 0, or why it failed */
-    uint32_t answer;  /* bytes of answer at the front of the work buffer */
+    uint32_t reason; /* 0, or why it failed */
+    uint32_t answer; /* bytes of answer at the front of the work buffer */
     bool runs;
     uint32_t address; /* where code runs */
 } model_outcome;

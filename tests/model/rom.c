@@ -6,13 +6,13 @@
 enum { LAST_PHASE = 11 };
 
 static const uint32_t uses[LAST_PHASE + 1] = {
-    [3] = USES(WORD_HELD),
-    [5] = USES(WORD_HELD),
-    [6] = USES(WORD_LENGTH),
-    [7] = USES(WORD_LENGTH) | USES(WORD_PLACE),
-    [8] = USES(WORD_LENGTH),
-    [9] = USES(WORD_LENGTH),
-    [11] = USES(WORD_HELD),
+    [3] = USES(WORD_HELD),                      /* takes the length's high byte */
+    [5] = USES(WORD_HELD),                      /* takes the extended length's high byte */
+    [6] = USES(WORD_LENGTH),                    /* sends 06 */
+    [7] = USES(WORD_LENGTH) | USES(WORD_PLACE), /* takes code */
+    [8] = USES(WORD_LENGTH),                    /* sends the XOR */
+    [9] = USES(WORD_LENGTH),                    /* takes the byte after it */
+    [11] = USES(WORD_HELD),                     /* runs the code */
 };
 
 bool model_ram_length(size_t length)
@@ -47,8 +47,7 @@ static uint32_t follow(uint32_t *s, model_line *l, const model_memories *m)
     uint8_t b;
     uint64_t length;
     switch (s[WORD_PHASE]) {
-    case 11:
-        return RUNS;
+    case 11: return RUNS;
     default:
         for (;;) {
             SEND(0, 0x02);

@@ -16,8 +16,13 @@ static const uint32_t uses[LAST_PHASE + 1] = {
     [4] = USES(WORD_OPCODE) | USES(WORD_HELD),
     [5] = USES_COMMAND,
     [6] = USES_COMMAND | USES(WORD_PLACE),
-    [7] = USES_COMMAND, [8] = USES_COMMAND, [9] = USES_COMMAND, [10] = USES_COMMAND,
-    [11] = USES_COMMAND, [12] = USES_COMMAND, [13] = USES_COMMAND,
+    [7] = USES_COMMAND,
+    [8] = USES_COMMAND,
+    [9] = USES_COMMAND,
+    [10] = USES_COMMAND,
+    [11] = USES_COMMAND,
+    [12] = USES_COMMAND,
+    [13] = USES_COMMAND,
     [14] = USES_COMMAND | USES(WORD_PLACE),
     [15] = USES_COMMAND,
     [16] = USES_COMMAND | USES(WORD_HELD),
@@ -183,8 +188,7 @@ static uint32_t answer(uint32_t *s, model_line *l, const model_memories *m)
 static uint32_t refusal(uint32_t *s, model_line *l)
 {
     switch (s[WORD_PHASE]) {
-    default:
-        SEND(18, NAK);
+    default: SEND(18, NAK);
     }
     return greet_again(s);
 }

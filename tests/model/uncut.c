@@ -1,4 +1,5 @@
-/* A session fed its whole stream, with room for every reply: it ends where a take finds the stream empty, or where code runs. */
+/* A session fed its whole stream, with room for every reply: it ends where a take finds the stream empty, or where code
+   runs. */
 #include "model.h"
 
 #include <setjmp.h>

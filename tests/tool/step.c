@@ -1,6 +1,7 @@
 /* Loaded before the C library: at STEP of the replacement of a file, the program is killed (HOW=kill) or the call fails
- * (HOW is the number of the error). The steps, in order: open, empty, half, fsync, rename, renamed. The file TRACE is told
- * what is done: write, fsync, rename, and folder for the folder's fsync; reply for what is sent to a pseudo-terminal. */
+   (HOW is the number of the error). The steps, in order: open, empty, half, fsync, rename, renamed. The file TRACE is
+   told what is done: write, fsync, rename, and folder for the folder's fsync; reply for what is sent to a
+   pseudo-terminal. */
 #define _GNU_SOURCE
 #include <dlfcn.h>
 #include <errno.h>

@@ -1,5 +1,5 @@
 /* Loaded before the C library: as many bytes wait to be sent as the file UNSENT says, as a serial port's driver would
- * tell; of a pseudo-terminal the system doesn't know. */
+   tell; of a pseudo-terminal the system doesn't know. */
 #define _GNU_SOURCE
 #include <dlfcn.h>
 #include <stdarg.h>

@@ -1,8 +1,9 @@
 /* undalisho frame: the boot frame of a code. */
+#include "frame.h"
+
 #include "code.h"
 #include "commands.h"
 #include "exits.h"
-#include "frame.h"
 #include "memory.h"
 #include "openings.h"
 #include "options.h"

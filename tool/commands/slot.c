@@ -1,7 +1,8 @@
 /* undalisho slot: the slot that will start, and both images. */
+#include "slot.h"
+
 #include "commands.h"
 #include "exits.h"
-#include "slot.h"
 #include "options.h"
 #include "say.h"
 #include "view.h"

@@ -1,5 +1,4 @@
 #include "await.h"
-
 #include "clock.h"
 #include "endings.h"
 #include "talk.h"
