@@ -18,7 +18,7 @@
  * - No function keeps a pointer once it has returned, has state of its own, or allocates. So sessions with records and
  *   memories of their own may be used from different threads at the same time.
  *
- * In these comments, numbers of two digits that stand for bytes (02, 15, AA) are hexadecimal. Numbers of several bytes
+ * In these comments the value of a byte is written as two hexadecimal digits (02, 15, AA). Numbers of several bytes
  * have the low byte first.
  */
 #ifndef UNDALISHO_H
@@ -34,11 +34,11 @@ extern "C" {
 /* The lengths that memories may have, and the address of RAM's first byte. Flash offsets count from 0. */
 enum {
     UND_RAM_FIRST = 0x07FC0000,
-    UND_RAM_MAX = 131072,    /* RAM: 1 byte to this many */
+    UND_RAM_MAX = 131072,    /* RAM: at least 1 byte, at most this */
     UND_FLASH_SECTOR = 4096, /* flash: a multiple of this, not 0, */
     UND_FLASH_MAX = 4194304, /* and at most this */
-    UND_WORK_MIN = 64,       /* work buffer: this many bytes */
-    UND_WORK_MAX = 65535     /* to this many */
+    UND_WORK_MIN = 64,       /* work buffer: at least this, */
+    UND_WORK_MAX = 65535     /* and at most this */
 };
 
 /* A byte of flash that is erased. */
@@ -110,7 +110,7 @@ und_ordered und_order(const uint8_t *a, size_t a_len, const uint8_t *b, size_t b
 /* ---- Images ----
  *
  * A product header has 12 bytes: 70 52, two bytes that are not tested, the flash offset of image 1 (4 bytes), that of
- * image 2 (4 bytes). An image is a header of 64 bytes with the code behind it:
+ * image 2 (4 bytes). An image is a header of 64 bytes and the code after it:
  *
  *     byte  0  70 51
  *           2  AA
@@ -154,7 +154,7 @@ typedef struct {
 } und_offered;
 
 /* Of two image files the one with the higher version, the installed one if they are equal. A file is an image from its
- * first byte on; bytes behind the code are allowed.
+ * first byte on; bytes after the code are allowed.
  *
  * Number:  0
  *          62  the installed file is not a valid image
@@ -212,7 +212,7 @@ typedef struct {
     uint8_t bytes[64]; /* the header; all 00 when refused */
 } und_image_header;
 
-/* The image header of a code. Header and code, one behind the other, are a valid image: at any offset of a flash, and
+/* The image header of a code. Header and code, one after the other, are a valid image: at any offset of a flash, and
  * as a file. The reserved bytes are 00.
  *
  * Number:  0
@@ -228,7 +228,8 @@ typedef struct {
     uint8_t bytes[12];
 } und_product_header;
 
-/* The product header that names two flash offsets, whatever stands there. The two bytes that are not tested are 00.
+/* The product header that names two flash offsets, whatever the flash holds there. The two bytes that are not tested
+ * are 00.
  *
  * Writes:  nothing that is lent
  */
@@ -253,7 +254,7 @@ und_product_header und_make_product_header(uint32_t first, uint32_t second);
  *
  * A refused call has standing 0, has taken and sent nothing, and has written nothing, the record included.
  *
- * A session may refuse what came over the line. The call's number is 0 all the same; the reason stands in
+ * A session may refuse what came over the line. The call's number is 0 all the same; the reason is in
  * record[UND_RECORD_REASON] until a later one replaces it. In order of test, with the byte that is sent:
  *
  *     reason  sent  cause
@@ -368,7 +369,7 @@ und_report und_rom_call(uint32_t record[8], const uint8_t *input, size_t input_l
  *    the payload's CRC-16 (2 bytes) and takes one byte. Only if that is 06, it goes on.
  * 3. It executes the command, after the checks were made again on what the work buffer then holds. A failure sends 15,
  *    success without an answer sends nothing.
- * 4. An answer stands in the work buffer, from its first byte on. It sends the answer's length (2 bytes), takes 06,
+ * 4. An answer is in the work buffer, from its first byte on. It sends the answer's length (2 bytes), takes 06,
  *    sends the answer, takes the host's CRC-16 of it (2 bytes), and sends 06 if that is right, else 15.
  * 5. It starts again at 1, as it does after every 15 and every reason 20.
  *

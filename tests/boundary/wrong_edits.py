@@ -21,7 +21,7 @@ CAPI_INSPECT, IMAGE_HEADER = "crates/capi_inspect/src/lib.rt", "crates/inspect/s
 CAPI_HEADERS, HEADERS, IMAGE = "crates/capi_headers/src/lib.rt", "crates/headers/src/lib.rt", "crates/image/src/lib.rt"
 RANK, ORDER = "crates/version/src/rank.rt", "crates/version/src/order.rt"
 
-# By file: what is wrong, what stands there once, what is put in its place, what the refusal says (a regular expression).
+# By file: what is wrong, a text that the file has once, what is put in its place, what the refusal says (a regular expression).
 EDITS = {
     HEADER: [
         # Parameters and results.
