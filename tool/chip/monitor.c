@@ -9,7 +9,7 @@
 #include <poll.h>
 #include <string.h>
 
-/* No line holds more pieces than MOST_OLD that a host has sent and nobody has read. */
+/* A line holds at most MOST_OLD pieces that a host has sent and nobody has read. */
 enum { PIECE = 4096, MOST_OLD = 64, RETRY_MILLISECONDS = 500 };
 
 /* What came from the host and was not taken yet. */
@@ -35,8 +35,8 @@ bool monitor_runs(const monitor *m)
     return phase_of(m->session.record).part == RUNNING;
 }
 
-/* Puts the flash into its file if it has changed since. What a host is told comes after that. `bytes` are those on
-   which the command was carried out. */
+/* Writes the flash to its file if it has changed since. Only then is the host told. `bytes` are those on which the
+   command was carried out. */
 static int keep_flash(monitor *m, const uint8_t *bytes, size_t count)
 {
     content *flash = &m->session.flash;

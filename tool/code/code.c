@@ -11,7 +11,7 @@
 #include <stdlib.h>
 #include <string.h>
 
-/* Of a larger file no more is read; HEX text of a code that RAM has room for is far smaller. */
+/* No more than this is read of a larger file; HEX text of a code that RAM has room for is far smaller. */
 enum { LARGEST_FILE = 1 << 24 };
 
 /* A file that is no code: how it begins, what it is, and what to do with it. */

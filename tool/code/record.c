@@ -130,7 +130,7 @@ bool is_hex_text(content file)
     return (begins.length > 0 && *begins.bytes == ':') || (is_text(file) && has_record(file));
 }
 
-/* Whether the line has the characters of a record, as many as it says; says so if not. */
+/* Whether the line has the characters of a record, and as many as it says; says so if not. */
 static int check_line(const hex_text *t, content line)
 {
     size_t characters = line.length - 1, digits = count_digits(line.bytes + 1, characters), bytes = digits / 2;
@@ -148,7 +148,7 @@ static int check_line(const hex_text *t, content line)
     return DONE;
 }
 
-/* Whether there is such a type, and it has so much data; says so if not. */
+/* Whether there is such a type, and the record has as much data as the type; says so if not. */
 static int check_type(const hex_text *t, const hex_record *r)
 {
     static const int counts[TYPES] = {

@@ -29,8 +29,8 @@ bool is_hex_text(content file);
 /* The text of a file, before its first line; a mark that it is UTF-8 is passed over. */
 hex_text hex_begin(const char *path, content file);
 
-/* Reads the next record, which is there: nothing but white space stands behind the end record, and no text ends without
-   one. Gives DONE, or the exit code after it has said what is wrong. */
+/* Reads the next record, which is there: only white space may follow the end record, and no text ends without one.
+   Gives DONE, or the exit code after it has said what is wrong. */
 int next_record(hex_text *t, hex_record *r);
 
 /* Says what is wrong in the line that was read last. Gives the exit code. */

@@ -1,4 +1,4 @@
-/* The subcommands. Each is lent the words behind its name and gives the exit code. */
+/* The subcommands. Each is lent the words after its name and gives the exit code. */
 #ifndef COMMANDS_H
 #define COMMANDS_H
 

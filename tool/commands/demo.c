@@ -141,7 +141,7 @@ static int load_package(void)
     return run_load(type("load", words, ""), words);
 }
 
-/* Sends a host's bytes, and takes as many as `replies` has. Gives whether these are the ones. */
+/* Sends a host's bytes, and takes as many as `replies` has. Gives whether they are the same. */
 static bool converse(line *l, content host, content replies)
 {
     uint8_t bytes[256];
@@ -157,7 +157,7 @@ static bool converse(line *l, content host, content replies)
     return same;
 }
 
-/* Plays the recorded visit to the monitor's line, until all has come that the library answers to it. */
+/* Plays the recorded visit to the monitor's line, until all that the library answers to it has come. */
 static int play_visit(void)
 {
     line l;

@@ -12,7 +12,7 @@
 /* As in the example of the vendor's note on two images. */
 enum { FLASH = 0x20000, FIRST = 0x8000, SECOND = 0x13000 };
 
-/* The recorded visit copies so many bytes from behind the stand-in. */
+/* The recorded visit copies PACKED bytes, which come after the stand-in. */
 enum { STAND_IN = 0x400, PACKED = 0x1800 };
 
 /* Room for the replies to the visit. */

@@ -12,7 +12,7 @@
 
 #include <stdio.h>
 
-/* What a frame may have more than its code. */
+/* How many bytes a frame may have besides its code. */
 enum { AROUND_CODE = 16 };
 
 int make_frame(const char *path, content code, uint32_t kind, content *frame)

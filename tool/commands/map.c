@@ -86,7 +86,7 @@ static void print_row(const sectors *s, size_t at, size_t count, bool colours)
     printf("\n");
 }
 
-/* Under a row, the sectors of the image that starts; the word stands where there is room. */
+/* Under a row, the sectors of the image that starts; the word is written where there is room. */
 static void print_marks(const bool *starts, size_t count)
 {
     static const char word[] = "starts";

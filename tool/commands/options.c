@@ -12,7 +12,7 @@
 
 const command *current_command;
 
-/* Whether --json stands among the options, even where they are wrong. */
+/* Whether --json is among the options, even where they are wrong. */
 static bool wants_json;
 
 int misuse(const char *format, ...)

@@ -16,7 +16,7 @@ typedef struct {
     void *value; /* of a flag bool, of a word const char *, of a number unsigned long */
 } option;
 
-/* A command: its name, what stands behind that on its usage line, what it does in a line, and the routine. */
+/* A command: its name, what follows it on its usage line, what it does in a line, and the routine. */
 typedef struct {
     const char *name, *usage, *summary;
     int (*run)(int count, char **words);

@@ -65,7 +65,7 @@ static content filled(size_t length, int byte)
     return c;
 }
 
-/* Zeros, so many; where that is more than `most`, one more than it, which the library refuses as well. */
+/* `length` zeros; where that is more than `most`, `most` + 1, which the library refuses as well. */
 static content zeros(unsigned long length, size_t most)
 {
     return filled(length > most ? most + 1 : length, 0);

@@ -15,7 +15,7 @@ static void refuse_checksum(loading *l)
     line_drain(&l->line);
 }
 
-/* A chip that waits to be told to start sends nothing behind its checksum; one that was reset greets again and again,
+/* A chip that waits to be told to start sends nothing after its checksum; one that was reset greets again and again,
    and a greeting may look like the checksum. */
 static int judge(loading *l, uint8_t wanted, uint8_t got)
 {

@@ -4,10 +4,10 @@
 #include "talk.h"
 #include "words.h"
 
-/* In milliseconds: how soon a chip greets that is new. */
+/* In milliseconds: how soon a chip that has just started greets. */
 enum { SOON = 1000 };
 
-/* Nothing has come for a while: says once what is waited for. */
+/* Nothing has come for a while: says once what load waits for. */
 static void tell_waiting(loading *l)
 {
     log_note(&l->log, "waiting", l->line.path, "waiting for the greeting on %s; if it stays so, reset the monitor",

@@ -27,7 +27,7 @@ static size_t drop_rest(loading *l)
     return l->sent > unsent ? l->sent - unsent : 0;
 }
 
-/* "1 second", "10 seconds": how long it was waited for. */
+/* "1 second", "10 seconds": how long load has waited. */
 static const char *wait_of(const loading *l)
 {
     static char words[32];

@@ -1,4 +1,4 @@
-/* How a load ends that went wrong: what is said, and what to do next. Each gives its exit code. */
+/* How a load that went wrong ends: what is said, and what to do next. Each gives its exit code. */
 #ifndef ENDINGS_H
 #define ENDINGS_H
 
@@ -13,13 +13,13 @@ int end_ungreeted(const loading *l);
 /* uartboot has greeted. */
 int end_uartboot(const loading *l);
 
-/* The header was not answered; or with NAK; or with so many bytes that mean nothing, and perhaps greetings. */
+/* The header was not answered; or with NAK; or with `count` bytes that mean nothing, and perhaps greetings. */
 int end_unanswered(const loading *l);
 int end_header_refused(void);
 int end_header_nonsense(const loading *l, size_t count);
 
-/* The line takes no more bytes; the chip has sent a byte while the code was on its way; no checksum came; or another
-   than the right one; or a byte behind it. */
+/* The line takes no more bytes; the chip has sent a byte while the code was on its way; no checksum came; or not the
+   right one; or a byte after it. */
 int end_stuck(loading *l);
 int end_interrupted(loading *l, uint8_t byte);
 int end_without_checksum(loading *l);

@@ -21,8 +21,8 @@ bool heard_greeting(const heard *h)
     return h->last[MOST_GREETING - 1] == UND_LINE_GREETING;
 }
 
-/* A chip that greets again and again is not waited for to be quiet. uartboot's greeting may be older than a reset, and
-   the boot ROM's may follow. */
+/* load does not wait until a chip that greets again and again is quiet. uartboot's greeting may be older than a reset,
+   and the boot ROM's may follow. */
 void hear(heard *h, uint8_t byte)
 {
     bool again = heard_greeting(h) && byte == UND_LINE_GREETING;

@@ -7,17 +7,17 @@
 
 enum { HEARD_SHOWN = 8 };
 
-/* In milliseconds: so soon a chip greets that was reset, or greets again. */
+/* In milliseconds: how soon a chip that was reset greets, or one greets again. */
 enum { GREETS_WITHIN = 300 };
 
 typedef struct {
     size_t count;
     uint8_t first[HEARD_SHOWN];
-    uint8_t last[MOST_GREETING];     /* the last of all stands last; zeros where fewer came */
+    uint8_t last[MOST_GREETING];     /* the newest is last; zeros where fewer came */
     uint8_t uartboot[MOST_GREETING]; /* uartboot's greeting, which begins with no zero */
     size_t uartboot_length;
     bool met_uartboot;
-    int settles;       /* so many milliseconds after a greeting nothing more of it comes */
+    int settles;       /* how many milliseconds after a greeting no more of it comes */
     long long settled; /* when that is so of the greeting that came last */
 } heard;
 

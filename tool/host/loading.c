@@ -28,7 +28,7 @@ static int answer_part(loading *l, part now, size_t taken, uint8_t sent)
     }
 }
 
-/* Lets the receiver take or send all bytes of the part of the flow that it stands in. */
+/* Lets the receiver take or send all bytes of the part of the flow that it is in. */
 static und_report turn_part(session *twin, const uint8_t *bytes, size_t length, uint8_t *reply)
 {
     part now = phase_of(twin->record).part;

@@ -7,14 +7,14 @@
 typedef struct {
     unsigned long baud;
     long long begun; /* when what is being sent began */
-    size_t given;    /* so many bytes of it were given to the line */
+    size_t given;    /* how many bytes of it were given to the line */
     long long left;  /* when the last of these has left */
 } pace;
 
 /* Something new is sent. */
 void pace_begin(pace *p);
 
-/* So many bytes of it were given to the line. */
+/* `count` bytes of it were given to the line. */
 void pace_add(pace *p, size_t count);
 
 /* How long until they have left. */

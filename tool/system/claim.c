@@ -36,7 +36,8 @@ static bool take_lock_file(claim *c, char *name)
     return !used;
 }
 
-/* A program that was killed leaves its lock file, and with it a pseudo-terminal that another one holds open closed. */
+/* A program that was killed leaves its lock file. A pseudo-terminal that another program holds open then stays closed
+   too. */
 static bool take(claim *c, int fd, char *name)
 {
     lock_state there = name ? lock_file_state(name) : LOCK_FREE;

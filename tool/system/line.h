@@ -25,7 +25,7 @@ typedef struct {
 
 typedef enum {
     LINE_OK,
-    LINE_QUIET,    /* nothing happened for so long */
+    LINE_QUIET,    /* nothing happened in that time */
     LINE_GONE,     /* hung up */
     LINE_SIGNALLED /* a signal has come */
 } line_event;

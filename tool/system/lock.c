@@ -16,7 +16,7 @@ static bool lock_whole(int fd)
     return false;
 }
 
-/* Whether the path still means the open file: another program may have replaced it before the lock was had. */
+/* Whether the path still means the open file: another program may have replaced it before it was locked. */
 static bool is_named(int fd, const char *path)
 {
     struct stat open_one, named;

@@ -4,7 +4,7 @@
 
 #include <stddef.h>
 
-/* So many zero bytes; never NULL. The program ends where there are none. */
+/* `bytes` bytes, all zero; never NULL. The program ends where there are none. */
 void *memory_of(size_t bytes);
 
 #endif

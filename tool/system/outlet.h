@@ -7,7 +7,7 @@
 #include <stdbool.h>
 
 typedef struct {
-    bool later; /* what nobody reads yet is written later; else it is waited until somebody does */
+    bool later; /* what nobody reads yet is written later; else the program waits until somebody reads it */
     text all;   /* where it is written later, what has come so far */
     size_t written;
 } outlet;

@@ -13,7 +13,7 @@
 #include <time.h>
 #include <unistd.h>
 
-/* So many bytes of an event are shown to people. */
+/* How many bytes of an event are shown to people, and the width of these in hexadecimal. */
 enum { SHOWN = 8, HEX_WIDTH = 3 * SHOWN - 1 };
 
 bool log_open(event_log *l)

@@ -18,7 +18,7 @@ typedef struct {
     uint32_t reason; /* of a refusal, else 0 */
     const char *words;
     const char *path;   /* of a file or a line that the event is about, else NULL */
-    const text *more;   /* what people read behind the words, else NULL */
+    const text *more;   /* what people read after the words, else NULL */
     const text *fields; /* the same as JSON's names and values, each with a comma before it, else NULL */
     const saying *said; /* an ending that the program says, else NULL */
 } event;

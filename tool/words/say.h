@@ -1,5 +1,5 @@
-/* What the program says when it can't do what was asked: what is wrong, and what to do next. Each gives its exit code.
- */
+/* What the program says when it can't do what it was asked: what is wrong, and what to do next. Each gives its exit
+   code. */
 #ifndef SAY_H
 #define SAY_H
 

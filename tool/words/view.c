@@ -9,7 +9,7 @@
 #include <string.h>
 #include <sys/stat.h>
 
-/* What the library says. An offset of more than 32 bits lies in no flash, and the largest of 32 bits neither. */
+/* What the library says. An offset of more than 32 bits lies in no flash, nor does the largest of 32 bits. */
 static void ask_library(flash_view *v)
 {
     uint32_t header = v->header > UINT32_MAX ? UINT32_MAX : (uint32_t)v->header;

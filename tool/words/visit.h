@@ -19,7 +19,7 @@ typedef struct {
 /* Begins the visit's time. */
 void visit_begin(visit *v);
 
-/* So many bytes went over the line. */
+/* `count` bytes went over the line. */
 void visit_move(visit *v, size_t count);
 
 /* Where, what, when and by which version: in words, and as JSON's names and values, each with a comma before it. */

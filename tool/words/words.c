@@ -129,7 +129,7 @@ void add_count(text *t, size_t count)
     text_add(t, count == 1 ? "1 byte" : "%zu bytes", count);
 }
 
-/* A number of a payload, by the letter behind '@'. */
+/* A number of a payload, by the letter after '@'. */
 static void add_number(text *t, char letter, const und_command *c)
 {
     switch (letter) {
