@@ -7,7 +7,7 @@
 /* Who works: the library, plain C, and plain C with other means, which is printed beside it. */
 typedef enum { LIBRARY, PLAIN, TABLE, ZLIB, LOOP, WORKERS } worker;
 
-/* What the bits of `beside` stand for. */
+/* What the bits of `beside` mean. */
 enum { WITH_TABLE = 1 << TABLE, WITH_ZLIB = 1 << ZLIB, WITH_LOOP = 1 << LOOP };
 
 typedef struct subject {

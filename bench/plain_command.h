@@ -19,7 +19,7 @@ typedef struct {
 int plain_has_length(uint32_t opcode, size_t length);
 int plain_is_known(uint32_t opcode);
 int plain_has_answer(uint32_t opcode);
-/* The reason against the command in the work buffer, whose payload has so many bytes; 0 where there is none. */
+/* The reason against the command in the work buffer, whose payload has `length` bytes; 0 where there is none. */
 uint32_t plain_check(uint32_t opcode, size_t length, const plain_memories *m);
 /* Executes it after the same checks. *answer is set to the answer's length. */
 uint32_t plain_execute(uint32_t opcode, size_t length, const plain_memories *m, size_t *answer);

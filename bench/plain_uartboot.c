@@ -171,7 +171,7 @@ static uint8_t send_greeting(uint32_t *r)
     return byte;
 }
 
-/* The 06 for a header: a command without payload is executed behind it. */
+/* The 06 for a header: a command without payload is executed after it. */
 static uint8_t send_ack(uint32_t *r, const plain_memories *m)
 {
     if (r[LENGTH] == 0)

@@ -28,8 +28,9 @@ static side ours, theirs;
 static uint8_t *input;
 static size_t input_len;
 
-/* Buffers begin at other places of their pages. A copy between two that begin at the same place would at times be
-   slowed down by loads that seem to hit earlier stores, the library and plain C not alike. */
+/* Buffers between which bytes are copied begin at different places of their pages. A copy between two that begin at the
+   same place would at times be slowed down by loads that seem to hit earlier stores, and not alike for the library and
+   plain C. */
 static void make_room(side *d)
 {
     d->ram = room_at(2048, RAM);

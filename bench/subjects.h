@@ -10,7 +10,7 @@
 uint32_t some_number(void);
 void some_bytes(uint8_t *bytes, size_t count);
 
-/* Room for so many bytes that begins at a place of a page. */
+/* Room for `count` bytes that begins at a place of a page. */
 uint8_t *room_at(size_t place, size_t count);
 
 void crc_prepare(const subject *s, size_t size);

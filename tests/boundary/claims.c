@@ -70,7 +70,7 @@ static void words(void)
     HOLD(record[UND_RECORD_REASON] == 11);
 }
 
-/* The number of a call with nothing to take, once a word of the record holds something else; the record is then as
+/* The number of a call with nothing to take, where a word of the record holds another value. The record is then as
    before. */
 static uint32_t number_once(int word, uint32_t value)
 {

@@ -70,7 +70,7 @@ static void command(uint8_t opcode, const uint8_t *payload, size_t count)
 int main(void)
 {
     static uint8_t ram[1024], flash[UND_FLASH_SECTOR];
-    uint8_t payload[4 + DATA] = {0x10, 0x00, 0xFC, 0x07}, crc[2]; /* 16 bytes behind UND_RAM_FIRST */
+    uint8_t payload[4 + DATA] = {0x10, 0x00, 0xFC, 0x07}, crc[2]; /* 16 bytes after UND_RAM_FIRST */
     uint32_t address;
 
     for (int i = 0; i < DATA; i++)

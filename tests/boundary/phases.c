@@ -1,5 +1,5 @@
-/* Says which words of a record each phase uses, in the lines that phases.py makes of the header's tables: asked of the
-   library. */
+/* Asks the library which words of a record each phase uses. It says so in the lines that phases.py makes of the
+   header's tables. */
 #include "undalisho.h"
 
 #include <stdio.h>

@@ -1,4 +1,4 @@
-/* A session twice: the library's on lent memory, the model's beside it. Each call goes to both and everything is
+/* A session twice: the library's on lent memory, and the model's. Each call goes to both, and everything is
    compared. */
 #ifndef DESK_H
 #define DESK_H
@@ -25,8 +25,8 @@ typedef struct {
 } desk;
 
 void desk_set(trial *t, desk *d, const setting *s);
-/* Shows so many bytes to both sessions and gives room for so many. Report and reply are the library's; the reply stays
-   where it is until the next call. */
+/* Shows `shown` bytes to both sessions and gives room for `room` bytes. Report and reply are the library's; the reply
+   stays where it is until the next call. */
 model_report desk_call(trial *t, desk *d, const uint8_t *input, size_t shown, size_t room, const uint8_t **reply);
 
 /* Memory for contents, as long as any length that is tried. One set for each use. */

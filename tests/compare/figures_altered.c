@@ -1,12 +1,12 @@
-/* The caller writes to the work buffer between two calls: what was judged is judged again at execution, and CRCs and
-   answers are those of what then stands there. */
+/* The caller writes to the work buffer between two calls. What was judged is judged again at execution, and CRCs and
+   answers are those of what is there then. */
 #include "figures.h"
 
 #include <string.h>
 
 typedef struct {
     const char *name;
-    const char *host; /* what the first call is shown, with so much room */
+    const char *host; /* what the first call is shown, with `room` bytes of room */
     size_t host_length, room;
     size_t place; /* what the caller writes */
     const char *written;

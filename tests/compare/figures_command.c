@@ -7,7 +7,7 @@ typedef struct {
     const char *name;
     size_t ram_length, flash_length, work_length;
     uint8_t opcode;
-    const char *numbers; /* of the payload; data of F0 stands behind them */
+    const char *numbers; /* of the payload; data of F0 follows them */
     size_t numbers_length, data_length;
     uint32_t phase, reason; /* after the byte that acknowledges the payload's CRC */
 } command_figure;

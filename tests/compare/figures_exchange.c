@@ -1,4 +1,4 @@
-/* 01's exchanges with sessions, and others that show one rule each. */
+/* The exchanges of the proved set (rules, 13.1), and others that show one rule each. */
 #include "figures.h"
 
 #include <string.h>

@@ -1,5 +1,5 @@
-/* Boot frames at the edges of code and room, and the loads of their bytes into RAM that is just long enough, or one
-   byte shorter. */
+/* Boot frames at the edges of code and room, and loads of them into RAM that is just long enough, or one byte too
+   short. */
 #include "figures.h"
 #include "undalisho.h"
 
@@ -55,8 +55,8 @@ static void frame_figure(trial *t, const frame_of *f, size_t room, uint32_t numb
     }
 }
 
-/* The frame's bytes in one call: the device's 02, 06 and XOR, and the code in RAM, running; or 33 for a RAM that is too
-   short. */
+/* The frame's bytes in one call. The device sends 02, 06 and the XOR, and runs the code in RAM; or it refuses with 33
+   where the RAM is too short. */
 static void load_figure(trial *t, const frame_of *f, size_t ram_length)
 {
     bool fits = f->code_length <= ram_length;

@@ -77,7 +77,7 @@ static void refused_call_figures(trial *t)
     }
 }
 
-/* Every byte but 01 is dropped before a command; every opcode but the nine is refused with 11. */
+/* Every byte but 01 is dropped before a command; every unknown opcode is refused with 11. */
 static void every_byte_figures(trial *t)
 {
     static char host[4 * 256], device[4 + 5 * 256] = GREETING;

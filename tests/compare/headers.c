@@ -41,7 +41,7 @@ static uint32_t any_word(trial *t)
     return once_in(t->c, 2) ? PICK_OF(t->c, edges) : pick(t->c, 0xFFFFFFFF);
 }
 
-/* Two files with the header and its code, and bytes behind them: the installed one wins, with that code. */
+/* Two files with the header and its code, and bytes after them: the installed one wins, with that code. */
 static void as_files(trial *t, const uint8_t header[IMAGE_HEADER], const uint8_t *code, size_t length)
 {
     size_t file_length = IMAGE_HEADER + length + pick(t->c, BEHIND);

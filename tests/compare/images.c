@@ -95,7 +95,7 @@ void select_case(trial *t)
     t->calls++;
 }
 
-/* A file with an image, cut short, exact or with bytes behind it. Gives its length. */
+/* A file with an image, cut short, exact or with bytes after it. Gives its length. */
 static size_t make_file(trial *t, uint8_t *file)
 {
     uint32_t code = once_in(t->c, 24) ? MOST_CODE - pick(t->c, 2) : 1 + pick(t->c, 200);

@@ -22,7 +22,7 @@ void shelf_build(shelf *s, size_t capacity)
     s->length = 0;
 }
 
-/* The watched bytes before or behind what is lent: the other side has the untouchable page. */
+/* The watched bytes before or after what is lent: the other side has the untouchable page. */
 static uint8_t *watched(const shelf *s)
 {
     return s->lent == s->first ? s->lent + s->length : s->lent - WATCHED;

@@ -14,7 +14,7 @@ typedef struct {
 } shelf;
 
 void shelf_build(shelf *s, size_t capacity);
-/* So many bytes, up to the shelf's last one or from its first one on. */
+/* `length` bytes, up to the shelf's last one or from its first one on. */
 uint8_t *shelf_lend(shelf *s, size_t length, bool at_end);
 /* Whether nothing was written beside what is lent. */
 bool shelf_intact(const shelf *s);

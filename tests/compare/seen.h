@@ -19,9 +19,9 @@ typedef enum {
        too, or that alone; unknown ones, 1 where they have more bytes than the work buffer */
     SEEN_HEADER_ACCEPTED, SEEN_HEADER_SHORT, SEEN_HEADER_LONG, SEEN_HEADER_LONG_ABOVE, SEEN_HEADER_ABOVE,
     SEEN_HEADER_STRANGE,
-    /* payloads by opcode: refused with each reason, which stand in their order, here and below; ranges that end with
-       their memory, one byte behind it, or at 2^32 and more; ranges from the byte before RAM on; answers as long as the
-       work buffer */
+    /* payloads by opcode: refused with each reason, in the order of reasons, here and below; ranges that end with their
+       memory, one byte after it, or at 2^32 and more; ranges from the byte before RAM on; answers as long as the work
+       buffer */
     SEEN_PAYLOAD_14, SEEN_PAYLOAD_15, SEEN_PAYLOAD_16, SEEN_PAYLOAD_17,
     SEEN_RAM_TO_END, SEEN_RAM_PAST_END, SEEN_RAM_WRAPS, SEEN_FLASH_TO_END, SEEN_FLASH_PAST_END, SEEN_FLASH_WRAPS,
     SEEN_RAM_BEFORE, SEEN_ANSWER_FILLS,
@@ -35,7 +35,8 @@ typedef enum {
     SEEN_ALTERED_P, SEEN_ALTERED_E, SEEN_ALTERED_UARTBOOT,
     /* the host's CRC of an answer: 1 its low byte is wrong, 2 its high byte, 3 both */
     SEEN_HOST_CRC,
-    /* reasons that stand before their 15 has room, and that replace another; by kind, a reason that success leaves */
+    /* reasons that the record has before there is room for their 15, and that replace another; by kind, a reason that
+       success leaves */
     SEEN_REASON_BEFORE_15, SEEN_REASON_REPLACED, SEEN_REASON_KEPT,
     /* by kind: bytes and room for a session whose code runs; by phase: a low byte of any size in a given record */
     SEEN_RUNNING_SHOWN, SEEN_WIDE_P, SEEN_WIDE_E, SEEN_WIDE_UARTBOOT,

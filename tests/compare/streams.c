@@ -121,7 +121,7 @@ static uint32_t plan_data(trial *t, const model_memories *m, uint32_t head)
     return (uint32_t)m->work_length - head - 1 + pick(t->c, 3);
 }
 
-/* The numbers that stand before data: each with its width, in the payload's order. */
+/* The numbers that come before data: each with its width, in the payload's order. */
 static uint32_t put_numbers(planned *p, const uint64_t *numbers, const int *widths, int count)
 {
     uint32_t at = 0;
@@ -202,7 +202,7 @@ static void play_command(lead *g)
         play_all(g, p.payload, p.length);
 }
 
-/* What a session that stands in the middle of a command waits for. */
+/* What a session in the middle of a command waits for. */
 static void play_on(lead *g)
 {
     static planned p;

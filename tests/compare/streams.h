@@ -13,7 +13,7 @@ typedef struct {
 void play_rom(trial *t, stream *s, uint32_t record[WORDS], const model_memories *memories, uint32_t loads);
 void play_uartboot(trial *t, stream *s, uint32_t record[WORDS], const model_memories *memories, uint32_t commands);
 
-/* Damage that no session asked for: an end in the middle, a wrong byte, more bytes behind. */
+/* Damage that no session asked for: an end in the middle, a wrong byte, more bytes at the end. */
 void spoil(trial *t, stream *s);
 
 /* A command with its payload; bytes that were not planned are 0. */

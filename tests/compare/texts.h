@@ -5,10 +5,10 @@
 #include "model.h"
 #include "trial.h"
 
-/* A version field, and some bytes behind it. */
+/* A version field, and some bytes after it. */
 void make_version(trial *t, uint8_t *field, size_t room);
 
-/* An image of so many bytes of code, header and all, at the front of `bytes`, with room for it all. */
+/* An image with `code` bytes of code, header included, at the front of `bytes`, which has room for it. */
 void make_image(trial *t, uint8_t *bytes, uint32_t code);
 /* Makes an image invalid, or not: one thing in its header or its code is another. `room` is how far its memory
    reaches. */

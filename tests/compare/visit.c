@@ -5,7 +5,7 @@
 #include <stdlib.h>
 #include <string.h>
 
-/* Enough for the longest answer, and what stands around it. */
+/* Enough for the longest answer, and what is sent around it. */
 enum { AMPLE = 70000 };
 
 /* How a session ended, or must end. */
@@ -58,7 +58,7 @@ static void refused_call(trial *t, desk *d, const uint8_t *input, size_t left)
     memcpy(d->record, record, sizeof record);
 }
 
-/* So many calls that comparing whole memories after each stays cheap. */
+/* How many calls there may be, so that comparing whole memories after each stays cheap. */
 static size_t most_calls(const visit *v)
 {
     const model_memories *m = &v->start.contents;

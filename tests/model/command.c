@@ -1,10 +1,10 @@
-/* uartboot's nine commands: the lengths they have, the tests they must pass, what they do. */
+/* uartboot's commands: the lengths they have, the tests they must pass, what they do. */
 #include "little.h"
 #include "model.h"
 
 #include <string.h>
 
-/* A payload: so many bytes at least, and more only where data follows. */
+/* A payload has `least` bytes, and more only where data follows. */
 typedef struct {
     uint8_t opcode;
     uint8_t least;

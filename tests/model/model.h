@@ -133,7 +133,7 @@ typedef struct {
     uint32_t address; /* where code runs */
 } model_outcome;
 
-/* How many opcodes there are, and each of them, in the order of 01's table. */
+/* How many opcodes there are, and each of them, in the order of their table (rules, 6.6). */
 uint32_t model_opcodes(void);
 uint8_t model_opcode(uint32_t i);
 bool model_known(uint32_t opcode);

@@ -15,8 +15,7 @@ static inline void keep_only(uint32_t record[WORDS], uint32_t used)
             record[word] = 0;
 }
 
-/* The place is that of the next of the bytes that its phase takes or sends in all; where it takes and sends none, it is
-   0. */
+/* The place is that of the next byte, of all that its phase takes or sends; where it takes and sends none, it is 0. */
 static inline bool has_place(const uint32_t record[WORDS], uint32_t bytes)
 {
     return record[WORD_PLACE] == 0 || record[WORD_PLACE] < bytes;

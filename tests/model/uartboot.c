@@ -96,7 +96,7 @@ static uint32_t greet_again(uint32_t *s)
     return go_on(s, 0);
 }
 
-/* Step 1, up to its 06 or 15. */
+/* Step 1 (rules, 6.1), up to its 06 or 15. */
 static uint32_t header(uint32_t *s, model_line *l, const model_memories *m)
 {
     uint8_t b = 0;
@@ -119,7 +119,7 @@ static uint32_t header(uint32_t *s, model_line *l, const model_memories *m)
     return go_on(s, 5);
 }
 
-/* Step 3. */
+/* Step 3 (rules, 6.3). */
 static uint32_t execute(uint32_t *s, const model_memories *m)
 {
     model_outcome done = model_execute(s[WORD_OPCODE], s[WORD_LENGTH], m);
@@ -135,7 +135,7 @@ static uint32_t execute(uint32_t *s, const model_memories *m)
     return go_on(s, 11);
 }
 
-/* The header's 06, and step 2. */
+/* The header's 06, and step 2 (rules, 6.2). */
 static uint32_t command(uint32_t *s, model_line *l, const model_memories *m)
 {
     uint8_t b = 0;
@@ -161,7 +161,7 @@ static uint32_t command(uint32_t *s, model_line *l, const model_memories *m)
     return greet_again(s);
 }
 
-/* Step 4. */
+/* Step 4 (rules, 6.4). */
 static uint32_t answer(uint32_t *s, model_line *l, const model_memories *m)
 {
     uint8_t b = 0;

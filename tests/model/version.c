@@ -1,4 +1,4 @@
-/* Version text: one to four decimal numbers with dots between, padded with 00 to sixteen bytes. */
+/* Version text: one to four decimal numbers with dots between, padded with 00 to 16 bytes. */
 #include "model.h"
 
 #include <string.h>
