@@ -80,7 +80,7 @@ class ChipCase(bench.Case):
         self.chip.expect(b'\6')
 
     def hear(self, seconds, most=65536):
-        """What comes within so many seconds, or until there is so much."""
+        """What comes within `seconds`, but at most `most` bytes."""
         end, heard = time.monotonic() + seconds, b''
         while len(heard) < most and self.chip.ready(end - time.monotonic()):
             heard += self.chip.some(most - len(heard))

@@ -100,7 +100,7 @@ class Host:
         return self.do(model.VERSION)
 
     def resynchronize(self):
-        """Passes over what is there, up to a greeting with nothing behind it."""
+        """Passes over what is there, up to a greeting with nothing after it."""
         came, end = b'', time.monotonic() + bench.SECONDS
         while time.monotonic() < end:
             if self.line.ready(0.1):

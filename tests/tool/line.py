@@ -61,7 +61,7 @@ class Line:
             return b''
 
     def read(self, count, seconds=bench.SECONDS):
-        """Exactly so many bytes."""
+        """Exactly `count` bytes."""
         end = time.monotonic() + seconds
         data = b''
         while len(data) < count:

@@ -43,7 +43,7 @@ class Player:
         return [event for event in self.events() if event['event'] == name]
 
     def await_event(self, name, count=1):
-        """Waits until there are so many events of this name; gives the last."""
+        """Waits until there are `count` events of this name; gives the last."""
         return bench.wait_until(lambda: len(self.named(name)) >= count and self.named(name)[-1], f'{count} times {name}')
 
     def await_reason(self, reason):

@@ -11,7 +11,7 @@ from line import Line
 
 
 class Relay:
-    """A cable: what goes in at `ports[0]` comes out at `ports[1]`, and back; with a rate, so many bytes in a second."""
+    """A cable: what goes in at `ports[0]` comes out at `ports[1]`, and back; with a rate, `rate` bytes in a second."""
 
     def __init__(self, case, seed, rate=None):
         self.rng = random.Random(seed)

@@ -53,7 +53,7 @@ class Socat(CableCase):
         self.load_and_visit(self.path('first'), self.path('second'))
 
     def test_port_that_goes_and_comes_back(self):
-        """In the middle of a command; the session goes on as it stood."""
+        """In the middle of a command; the session goes on where it was."""
         cable = self.socat(first='first')
         flash = self.file('flash.bin', model.flash(0x4000))
         player = Player(self, 'uartboot', '--flash', flash, port=self.path('first'))

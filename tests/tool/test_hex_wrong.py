@@ -15,7 +15,7 @@ DAMAGED = 300
 
 class Wrong(CodeCase):
     def check_line(self, line, *about):
-        """A wrong line behind a good one and before others."""
+        """A wrong line after a good one and before others."""
         self.check_refused(hexfile.text([GOOD, line, GOOD], '\r\n'), 'line 2: ', 'export the file again', *about)
 
     def test_checksums(self):

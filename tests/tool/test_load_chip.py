@@ -129,7 +129,7 @@ class Checksum(ChipCase):
         self.chip.expect_nothing(0)
 
     def test_more_than_it(self):
-        """A chip that waits to be told to start sends nothing behind its checksum."""
+        """A chip that waits to be told to start sends nothing after its checksum."""
         self.start()
         self.take_header()
         self.take_code_alone()

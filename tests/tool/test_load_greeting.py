@@ -30,7 +30,7 @@ class Noise(ChipCase):
         self.assertIn('255 bytes', passed['words'])
 
     def test_without_end(self):
-        """A line that is never silent, and never greets, is not waited for for ever."""
+        """load does not wait for ever for a line that is never silent, and never greets."""
         self.start('--wait', '1', '--json')
         sent = 0
         end = time.monotonic() + 10
@@ -63,7 +63,7 @@ class Noise(ChipCase):
 
 class Greetings(ChipCase):
     def test_again_and_again(self):
-        """A chip that greets every few milliseconds is not waited for to be quiet, and its greetings are passed over."""
+        """load does not wait until a chip that greets every few milliseconds is quiet, and passes over its greetings."""
         begun = time.monotonic()
         self.chip.write(b'\2' * 50)
         self.start('--wait', '30')
@@ -108,7 +108,7 @@ class Uartboot(ChipCase):
                 self.hear(0)
 
     def test_reset_since(self):
-        """The boot ROM's greeting behind it counts."""
+        """The boot ROM's greeting after it counts."""
         for pause in (0, 0.1):
             self.chip.write(model.GREETING)
             self.start('--json')

@@ -27,7 +27,7 @@ class LostHeader(ChipCase):
                 self.assertEqual(self.headers_again(), 1)
 
     def test_after_noise(self):
-        """A monitor that was switched off and on behind the header, within --wait."""
+        """A monitor that was switched off and on after the header, within --wait."""
         for noise, pause in [(b'\xF0\0', 0.05), (b'\xF0', 1.2)]:
             self.start('--json', '--wait', '5')
             self.take_header()

@@ -11,7 +11,7 @@ S = model.SECTOR
 
 
 def image(ident, sectors, **broken):
-    """An image that fills so many sectors."""
+    """An image that fills `sectors` sectors."""
     return model.image(model.noise(sectors * S - 64, ident), ident, **broken)
 
 

@@ -71,7 +71,7 @@ class Pieces(bench.Case):
             player.wait()
 
     def test_an_end_that_nobody_reads(self):
-        """The replies are not waited for for ever."""
+        """The player does not wait for ever until the replies are read."""
         player = Player(self, 'uartboot')
         player.open().write(header(model.RUN, 4) + struct.pack('<I', RAM) + ACK)
         player.wait()

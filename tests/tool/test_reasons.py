@@ -52,7 +52,7 @@ class ReasonCase(bench.Case):
         self.told = 0
 
     def refused_with(self, reason, came):
-        """What comes next, with a greeting behind it; then the reason in the log."""
+        """What comes next, with a greeting after it; then the reason in the log."""
         self.line.expect(came + model.GREETING)
         self.told += 1
         events = bench.wait_until(lambda: len(self.reasons()) >= self.told and self.reasons(), f'reason {reason} is told')

@@ -1,4 +1,4 @@
-"""play uartboot: all nine commands."""
+"""play uartboot: all commands."""
 import struct
 
 import bench

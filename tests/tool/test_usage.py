@@ -90,7 +90,7 @@ class PlayAndLoad(bench.Case):
                 self.misused('load', *words)
 
     def test_as_json(self):
-        """A wrong command line has a word too, wherever --json stands."""
+        """A wrong command line has a word too, wherever --json is."""
         code = self.file('code', b'x')
         for words in [('load', '--json', code), ('load', code, '--nothing', '--json'), ('play', 'spi', '--json')]:
             done = self.tool(*words, code=bench.MISUSED)
