@@ -1,5 +1,5 @@
-# The library for C and the bench tool: make, make demo, install, uninstall, clean; make lib is the library alone; make test runs all
-# tests, make bench all measurements.
+# The library for C and the bench tool. Targets: all, lib (the library alone), demo, install, uninstall, clean, test (all tests),
+# bench (all measurements).
 VERSION := 0.2.0
 
 PREFIX ?= /usr/local
@@ -29,7 +29,7 @@ used_by = $(shell sed -n 's/^$(1)://p' crates.txt)
 rlibs_of = $(addsuffix .rlib,$(addprefix target/rlib/,$(1)))
 USED := $(sort $(foreach crate,$(CAPI),$(call used_by,$(crate))))
 
-# The check knows what is up to date, and proves crates side by side. staticlib does neither, so it comes second, and only
+# rt check knows what is up to date, and proves crates side by side. rt staticlib does neither. So it comes second, and only
 # where the check has proved anew what the crate uses, or the crate itself has changed.
 $(call rlibs_of,$(USED)) &: force
 	rt check $(USED)
@@ -38,8 +38,8 @@ $(call rlibs_of,$(USED)) &: force
 $(PARTS): target/staticlib/lib%.a: $$(call rlibs_of,$$(call used_by,$$*)) $$(shell find crates/$$* -type f)
 	rt staticlib $*
 
-# The objects share no name: all symbols of one but its functions for C are local. A file whose content stays is not touched,
-# so that nothing is made anew from it.
+# The objects share no name: in each, all symbols but its functions for C are local. A file whose content stays the same is
+# not touched, so that nothing is made anew from it.
 $(BUILD)/libundalisho.a: $(PARTS) crates.txt | $(BUILD)
 	@rm -rf $(BUILD)/parts && mkdir $(BUILD)/parts
 	@for part in $(PARTS); do (cd $(BUILD)/parts && ar x $(CURDIR)/$$part) || exit 1; done
