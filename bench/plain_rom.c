@@ -38,7 +38,7 @@ static void refuse(uint32_t *r, uint32_t reason)
     r[LENGTH] = r[PLACE] = r[HELD] = 0;
 }
 
-/* A length that isn't zero is in. */
+/* A length that is not 0 has come. */
 static void judge(uint32_t *r, size_t length, size_t ram_len)
 {
     if (length > ram_len) {

@@ -5,7 +5,7 @@
 
 #include <string.h>
 
-/* How many bytes at the front of RAM, or of the work buffer, the session's step still goes by. */
+/* How many bytes at the front of RAM, or of the work buffer, the session still relies on. */
 static size_t relied_on(const desk *d, bool work)
 {
     const uint32_t *r = d->model_record;

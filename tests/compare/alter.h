@@ -4,7 +4,7 @@
 
 #include "desk.h"
 
-/* None; any byte of any memory; payloads alone, once they were accepted, so that the stream still fits the session. */
+/* Nothing; any byte of any memory; or only payloads that were accepted, so that the stream still fits the session. */
 typedef enum { ALTERS_NOTHING, ALTERS_BYTES, ALTERS_PAYLOADS } alters;
 
 alters draw_alters(trial *t, uint32_t kind);

@@ -120,7 +120,7 @@ static void same_memories(trial *t, const desk *d)
         differ(t, "a byte beside lent memory was written");
 }
 
-/* Room holds something that a call can't have left there by chance at every place. */
+/* Fills room before a call with bytes that the call would not write at every place by chance. */
 static void mark_room(uint8_t *library, uint8_t *model, size_t room, uint64_t salt)
 {
     for (size_t i = 0; i < room; i++)

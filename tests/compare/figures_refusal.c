@@ -1,4 +1,5 @@
-/* Refusals: which of several causes is named, and that every byte and opcode that is none is treated alike. */
+/* Refusals: which of several causes is named, and that all bytes before a command and all unknown opcodes are treated
+   alike. */
 #include "figures.h"
 
 #include <string.h>

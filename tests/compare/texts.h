@@ -10,8 +10,7 @@ void make_version(trial *t, uint8_t *field, size_t room);
 
 /* An image with `code` bytes of code, header included, at the front of `bytes`, which has room for it. */
 void make_image(trial *t, uint8_t *bytes, uint32_t code);
-/* Makes an image invalid, or not: one thing in its header or its code is another. `room` is how far its memory
-   reaches. */
+/* Changes one thing in an image's header or code, which may make it invalid. `room` is how far its memory reaches. */
 void damage_image(trial *t, uint8_t *bytes, size_t room);
 
 #endif

@@ -58,7 +58,7 @@ static bool sound(const uint32_t s[WORDS], const model_memories *m)
     uint32_t phase = s[WORD_PHASE], opcode = s[WORD_OPCODE], length = s[WORD_LENGTH];
     if (s[WORD_KIND] != KIND_UARTBOOT || phase > LAST_PHASE || !has_place(s, bytes_of(s)))
         return false;
-    if (phase < 5 || phase == 18) /* neither opcode nor length counts */
+    if (phase < 5 || phase == 18) /* opcode and length do not count */
         return true;
     if (phase == 19)
         return opcode == OP_RUN && runs_in_ram(s, m->ram_length);
