@@ -35,7 +35,7 @@ EDITS = {
          "conflicting types for 'und_rank'"),
         ("parameter left out", ", size_t field_len", "", "conflicting types for 'und_rank'"),
         ("parameter added", "size_t field_len", "size_t field_len, uint32_t more", "conflicting types for 'und_rank'"),
-        ("number behind the bytes", "uint32_t opcode, const uint8_t *payload, size_t payload_len",
+        ("number after the bytes", "uint32_t opcode, const uint8_t *payload, size_t payload_len",
          "const uint8_t *payload, size_t payload_len, uint32_t opcode", "conflicting types for 'und_read_command'"),
         ("byte of 32 bits as parameter", "uint8_t id,", "uint32_t id,", "conflicting types for 'und_make_image_header'"),
         ("time of 64 bits", "uint32_t time);", "uint64_t time);", "conflicting types for 'und_make_image_header'"),
@@ -87,7 +87,7 @@ EDITS = {
         ("longer array", "rank[4]", "rank[5]", 'static assertion failed: "und_ranked.rank: type"'),
         ("longer header", "bytes[64]", "bytes[65]", 'static assertion failed: "und_image_header.bytes: type"'),
         ("shorter header", "bytes[12]", "bytes[11]", 'static assertion failed: "und_product_header.bytes: type"'),
-        ("number behind the bytes", "uint32_t number;\n    uint8_t bytes[64];", "uint8_t bytes[64];\n    uint32_t number;",
+        ("number after the bytes", "uint32_t number;\n    uint8_t bytes[64];", "uint8_t bytes[64];\n    uint32_t number;",
          'static assertion failed: "und_image_header.number: place"'),
         ("field renamed", "uint32_t slot;", "uint32_t image;", "'und_selected' has no member named 'slot'"),
         ("field left out", "size_t size;", "", "'und_offered' has no member named 'size'"),
@@ -245,7 +245,7 @@ def try_edit(tree, archive, name, what, old, new, says):
     path = tree / name
     text = path.read_text()
     if text.count(old) != 1:
-        sys.exit(f"boundary: the wrong edit '{what}' of {name} wants '{old}' to stand there once")
+        sys.exit(f"boundary: the wrong edit '{what}' of {name} wants '{old}' to be there once")
     path.write_text(text.replace(old, new))
     expect_refusal(f"{name}: {what}", says, tree, archive)
     path.write_text(text)

@@ -41,7 +41,7 @@ static const alteration alterations[] = {
     {"Write past RAM", BYTES(WRITE_2), AMPLE, 0, BYTES("\x0F"), BYTES("\x06"), REFUSED, 1, 16},
     {"Copy past flash", BYTES(COPY_2), AMPLE, 6, BYTES("\xFF\x0F"), BYTES("\x06"), REFUSED, 1, 16},
     {"Erase past flash", BYTES(ERASE_1), AMPLE, 6, BYTES("\x01"), BYTES("\x06"), REFUSED, 1, 16},
-    {"Run behind RAM", BYTES(RUN_FIRST), AMPLE, 0, BYTES("\x10"), BYTES("\x06"), REFUSED, 1, 16},
+    {"Run after RAM", BYTES(RUN_FIRST), AMPLE, 0, BYTES("\x10"), BYTES("\x06"), REFUSED, 1, 16},
     {"answer above W", BYTES(READ_FLASH_2), AMPLE, 4, BYTES("\x41"), BYTES("\x06"), REFUSED, 1, 17},
     {"verify that differs", BYTES(STORE_FF), AMPLE, 0, BYTES("\x01"), BYTES("\x06"), REFUSED, 1, 18},
     {"not acknowledged", BYTES(STORE_FF), AMPLE, 0, BYTES("\x02"), BYTES("\x15"), BYTES(GREETING), 1, 20},
@@ -53,7 +53,7 @@ static const alteration alterations[] = {
     {"before the answer", BYTES(VERSION), AMPLE, 0, BYTES("\xFF"), BYTES("\x06\x92\x9E"),
      BYTES("\xFF.0.0.3\x06" GREETING), 1, 0},
     {"before the host's CRC", BYTES(VERSION "\x06"), AMPLE, 6, BYTES("4"), BYTES("\x6E\x62"), REFUSED, 1, 19},
-    {"behind the answer", BYTES(VERSION "\x06"), AMPLE, 7, BYTES("4"), BYTES("\x6E\x62"), BYTES("\x06" GREETING), 1, 0},
+    {"after the answer", BYTES(VERSION "\x06"), AMPLE, 7, BYTES("4"), BYTES("\x6E\x62"), BYTES("\x06" GREETING), 1, 0},
 };
 
 static void altered_figure(trial *t, desk *d, const alteration *a)

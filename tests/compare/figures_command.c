@@ -24,7 +24,7 @@ static const command_figure commands[] = {
     {"Read past RAM", RAM_FULL, OP_READ, BYTES("\x02\x00\xFD\x07" "\xFF\xFF"), 0, 1, 16},
     {"Read above W", 131072, SECTOR, 65534, OP_READ, BYTES("\x00\x00\xFC\x07" "\xFF\xFF"), 0, 1, 17},
     {"Run of the last byte", RAM_FULL, OP_RUN, BYTES("\xFF\xFF\xFD\x07"), 0, 19, 0},
-    {"Run behind RAM", RAM_FULL, OP_RUN, BYTES("\x00\x00\xFE\x07"), 0, 1, 16},
+    {"Run after RAM", RAM_FULL, OP_RUN, BYTES("\x00\x00\xFE\x07"), 0, 1, 16},
     {"Copy to the end of flash", FLASH_64K, OP_COPY, BYTES("\x01\x00\xFD\x07" "\xFF\xFF" "\x01\x00\x00\x00"), 0, 1, 0},
     {"Copy past flash", FLASH_64K, OP_COPY, BYTES("\x01\x00\xFD\x07" "\xFF\xFF" "\x02\x00\x00\x00"), 0, 1, 16},
     {"Read QSPI to the end of flash", FLASH_64K, OP_READ_QSPI, BYTES("\x01\x00\x00\x00" "\xFF\xFF"), 0, 13, 0},

@@ -50,7 +50,7 @@ static void round_trip(trial *t, uint32_t kind, const uint8_t *frame, size_t fra
     same_number(t, "round trip's taken bytes", at, frame_length);
     same_bytes(t, "code in RAM", ram, code, length);
     if ((ram_length > length && ram[length] != 0xEE) || !shelf_intact(&ram_shelf))
-        differ(t, "a byte behind the code in RAM was written");
+        differ(t, "a byte after the code in RAM was written");
 }
 
 void frame_case(trial *t)

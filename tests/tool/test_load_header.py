@@ -62,7 +62,7 @@ class LostHeader(ChipCase):
 
 
 class Chatter(ChipCase):
-    def test_chatter_behind_what_looks_like_a_greeting(self):
+    def test_chatter_after_what_looks_like_a_greeting(self):
         self.start('--wait', '1', '--json')
         self.take_header()
         while self.process.poll() is None:

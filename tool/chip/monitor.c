@@ -64,7 +64,7 @@ static int keep_flash(monitor *m, const uint8_t *bytes, size_t count)
 /* The port has hung up: waits until it is there again, or the end is asked for. */
 static void await_port(monitor *m)
 {
-    log_note(&m->log, "hung-up", m->line.path, "%s has hung up; the session waits as it stands", m->line.path);
+    log_note(&m->log, "hung-up", m->line.path, "%s has hung up; the session waits as it is", m->line.path);
     line_close(&m->line);
     while (!signals_stop()) {
         poll(NULL, 0, RETRY_MILLISECONDS);

@@ -21,7 +21,7 @@ typedef struct {
 
 static const form forms[] = {
     {"\177ELF", "an ELF file", "'objcopy -O binary FILE CODE' makes its code: name CODE"},
-    {"\x70\x51", "an image, which is a header with code behind it",
+    {"\x70\x51", "an image, which is a header with code after it",
      "'undalisho offer FILE FILE -o CODE' takes out its code: name CODE"},
     {"\x70\x52", "a product header, which belongs into the flash", "name a file with code"},
 };

@@ -193,7 +193,7 @@ static const scene scenes[] = {
     {"A monitor's flash: version 1.9 in slot 1, the older 1.2 in slot 2.", show_slot},
     {NULL, show_map},
     {"No monitor is plugged in: it is played, on a pseudo-terminal.", start_monitor},
-    {"The bench loads uartboot through the boot ROM's line, a new image behind it.", load_package},
+    {"The bench loads uartboot through the boot ROM's line, a new image after it.", load_package},
     {"uartboot runs. A recorded visit erases slot 2 and copies the new image there.", play_visit},
     {"What the monitor saw: who sent which bytes, and what they mean.", show_log},
     {"The new image has version 1.10. Versions are compared number by number:", show_order},

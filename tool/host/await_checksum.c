@@ -30,7 +30,7 @@ static int judge(loading *l, uint8_t wanted, uint8_t got)
         &(event){
             .from = FROM_CHIP, .name = "unexpected", .bytes = &byte, .count = 1, .words = "not the byte that is due"});
     refuse_checksum(l);
-    return more ? end_behind_checksum(byte) : end_wrong_checksum(wanted, got);
+    return more ? end_after_checksum(byte) : end_wrong_checksum(wanted, got);
 }
 
 int await_checksum(loading *l, uint8_t wanted)

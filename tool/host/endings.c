@@ -138,9 +138,9 @@ int end_wrong_checksum(uint8_t wanted, uint8_t got)
                              got, wanted, hint_at(got));
 }
 
-int end_behind_checksum(uint8_t byte)
+int end_after_checksum(uint8_t byte)
 {
     return refuse_unnumbered(load_again,
-                             "refused: the chip has sent %02X behind the checksum; the code was not started%s", byte,
+                             "refused: the chip has sent %02X after the checksum; the code was not started%s", byte,
                              hint_at(byte));
 }

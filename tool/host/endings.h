@@ -24,6 +24,6 @@ int end_stuck(loading *l);
 int end_interrupted(loading *l, uint8_t byte);
 int end_without_checksum(loading *l);
 int end_wrong_checksum(uint8_t wanted, uint8_t got);
-int end_behind_checksum(uint8_t byte);
+int end_after_checksum(uint8_t byte);
 
 #endif
