@@ -1,14 +1,14 @@
 #!/usr/bin/env python3
-"""01's version text, dual image, offer and sheet in plain Python, and the figures that are run.
+"""Version text, slots, offers and sheets (rules, 8, 9, 10, 11 and 12) in plain Python, and the figures that are run.
 
     python3 model.py --rows > stdin     the rows that the program reads
-    python3 model.py > stdout           the same rows, each with what 01 answers
+    python3 model.py > stdout           the same rows, each with what the rules answer
 """
 import struct
 import sys
 import zlib
 
-# ---- the paper's rules
+# ---- the rules
 
 
 def rank(field):
@@ -277,7 +277,7 @@ def hexes(part):
 
 
 def lines():
-    """Each row, and what stands behind it."""
+    """Each row, and what comes after it."""
     for word in [marks(w) for w in RANKS] + LENGTHS:
         n, numbers = rank(field(word))
         yield "version " + word, ": number %d, rank %s" % (n, " ".join(map(str, numbers)))

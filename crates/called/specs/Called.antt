@@ -1,4 +1,4 @@
--- What C gets of a session call: the report by value, the record in its eight words, and the lent slices.
+-- What C gets of a session call (rules, 3.2 and 3.3): the report by value, the record in its eight words, and the lent slices.
 -- Assumes nothing.
 use Prim.Native.Nat.{ℕ}
 use mathlib.Core.Bool.{cond}

@@ -1,4 +1,4 @@
--- The checks of a command (01, "Numbers given back": reasons 14, 15, 16 and 17, in that order).
+-- The checks of a command (rules, 2.2 and 6.8): reasons 14, 15, 16 and 17, in that order.
 -- Assumes nothing.
 use Prim.Native.Nat.{ℕ}
 use mathlib.Core.Bool.{cond, not}

@@ -1,4 +1,4 @@
--- What a payload says (01, "uartboot session": the table's second column; numbers little-endian).
+-- What a payload says (rules, 6.7).
 -- Assumes nothing.
 use Prim.Native.Nat.{ℕ, _-_, _≤_}
 use mathlib.Core.Path.{_≡_}

@@ -1,4 +1,4 @@
--- What Version answers (01, "uartboot session": the table).
+-- What Version answers (rules, 6.9).
 -- Assumes nothing.
 use Prim.Native.Nat.{ℕ}
 use mathlib.Core.List.{List, [], _∷_}

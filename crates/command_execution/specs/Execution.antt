@@ -1,4 +1,4 @@
--- What a command does to the memories, and how it ends (01, "uartboot session": the table's last column, and step 3; reason 18).
+-- What a command does to the memories, and how it ends (rules, 6.3 and 6.9).
 -- Assumes nothing.
 use Prim.Native.Nat.{ℕ, _+_, _-_, _≤_, _<_}
 use mathlib.Core.Path.{_≡_}
@@ -23,7 +23,7 @@ use Rattle.command_execution.specs.declared.Ending.{Ending}
 use Rattle.command_execution.specs.declared.Ending.the-variants.{Silent, Answers, Runs, Failed}
 use Rattle.memory.specs.Memories.{Memories, memories, Fitting}
 
--- flash differs from the command's data
+-- the reason (rules, 2.2): flash differs from the command's data
 abbrev pub verifyDiffers : ℕ
 verifyDiffers = 18
 

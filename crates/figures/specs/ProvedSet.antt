@@ -1,4 +1,4 @@
--- The proved set: the figures of 01 that are marked * ("Figures on both sides"), as one table and one statement.
+-- The proved set (rules, 13.1): figures that the definitions must give, as one table and one statement.
 -- Assumes nothing.
 use Prim.Native.Nat.{ℕ, _-_}
 use mathlib.Core.Path.{_≡_}
@@ -31,7 +31,7 @@ use Rattle.sessions.specs.Kind.{romP, uartboot}
 use Rattle.sessions.specs.Definition.{definition}
 
 infix 10 _is_
--- what a definition gives, and what 01 says
+-- what a definition gives, and what it must give
 pub data Figure : Type 1 where
   _is_ : {A : Type 0} → A → A → Figure
 

@@ -1,4 +1,4 @@
--- The boot frame (01, "ROM receiver" and "Numbers given back": frame).
+-- The boot frame (rules, 5.1), and when it is refused (rules, 2.3).
 -- Assumes nothing.
 use Prim.Native.Nat.{ℕ, _-_}
 use mathlib.Core.List.{List, [], _∷_, _++_}

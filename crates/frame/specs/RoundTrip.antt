@@ -1,4 +1,4 @@
--- The round trip (01, "ROM receiver": given RAM large enough and a receiver of the same kind).
+-- The round trip (rules, 5.2), given RAM large enough and a receiver of the same kind.
 -- Assumes nothing.
 use Prim.Native.Nat.{ℕ, _≤_}
 use mathlib.Core.Path.{_≡_}

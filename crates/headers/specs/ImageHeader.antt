@@ -1,4 +1,4 @@
--- The image header that is made for a code (01, "Dual image", "Version text" and "Numbers given back": 41, 42 and 61).
+-- The image header that is made for a code (rules, 9.4), or its refusal with 41, 42 or 61 (rules, 2.3).
 -- Assumes nothing.
 use Prim.Native.Nat.{ℕ}
 use mathlib.Core.List.{List, _∷_, _++_}

@@ -1,4 +1,4 @@
--- What a header that was made says where it lies in a memory (01, "Dual image"): any bytes may stand before and behind it.
+-- What a header that was made says where it lies in a memory (rules, 9.4 and 10.4). Any bytes may be before and after it.
 -- Assumes nothing.
 use Prim.Native.Nat.{ℕ}
 use mathlib.Core.Path.{_≡_}

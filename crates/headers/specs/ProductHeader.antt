@@ -1,4 +1,4 @@
--- The product header that is made (01, "Dual image"): 70 52, version 2, two image offsets of 4. The version is not tested; it is 0.
+-- The product header that is made (rules, 10.4): 70 52, a version of 2 bytes, two image offsets of 4. The version is not tested; it is 0.
 -- Assumes nothing.
 use Prim.Native.Nat.{ℕ}
 use mathlib.Core.List.{_∷_, _++_}

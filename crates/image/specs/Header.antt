@@ -1,6 +1,6 @@
--- The image header, 64 bytes, and the code behind it (01, "Dual image"). Numbers are little-endian. The time, at 28, and the reserved
--- bytes from 33 on are not read. Each field is that of an image at an offset of a memory; a number that lies past the memory's end
--- counts as 0, and a range of bytes ends with the memory.
+-- The image header, 64 bytes, and the code after it (rules, 9.1). Numbers are little-endian. The time, at 28, and the reserved bytes from
+-- 33 on are not read. Each field is that of an image at an offset of a memory. Bytes past the memory's end count as 0 in a number, and a
+-- range of bytes ends with the memory.
 -- Assumes nothing.
 use Prim.Native.Nat.{ℕ, _+_}
 use mathlib.Core.List.{List}

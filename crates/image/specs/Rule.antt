@@ -1,5 +1,4 @@
--- The first rule that an image breaks (01, "Dual image": the rules of a valid image, in the order that stands there; before them, that
--- the header lies in the memory).
+-- The rules of a valid image, the numbers of these rules, and the first one that an image breaks (rules, 2.4 and 9.2).
 -- Assumes nothing.
 use Prim.Native.Nat.{ℕ, _+_}
 use mathlib.Core.List.{List}

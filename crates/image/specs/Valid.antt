@@ -1,4 +1,4 @@
--- Which images are valid (01, "Dual image"). For a file the offset is 0 and the memory is the file.
+-- Which images are valid (rules, 9.2). For a file the offset is 0 and the memory is the file.
 -- Assumes nothing.
 use Prim.Native.Nat.{ℕ}
 use mathlib.Core.List.{List}

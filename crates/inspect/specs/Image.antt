@@ -1,5 +1,4 @@
--- What an image header says, and the first rule that the image breaks (01, "Dual image"). The memory is a flash or a file, of any
--- length.
+-- What an image header says, and the first rule that the image breaks (rules, 9.3). The memory is a flash or a file, of any length.
 -- Assumes nothing.
 use Prim.Native.Nat.{ℕ, _+_}
 use mathlib.Core.List.{List}

@@ -1,4 +1,4 @@
--- How what is read stands to what is judged (01, "Dual image").
+-- What is read agrees with what is judged (rules, 9.3).
 -- Assumes nothing.
 use Prim.Native.Nat.{ℕ}
 use mathlib.Core.Path.{_≡_}

@@ -1,4 +1,4 @@
--- What a product header says, in numbers (01, "Dual image" and "Numbers given back": selector, 3, 51 and 52).
+-- What a product header says, in numbers (rules, 10.1), or its refusal with 3, 51 or 52.
 -- Assumes nothing.
 use Prim.Native.Nat.{ℕ}
 use mathlib.Core.List.{List}

@@ -1,4 +1,4 @@
--- What a command's payload says, in numbers (01, "uartboot session": the table's second column; reasons 11 and 12).
+-- What a command's payload says, in numbers (rules, 6.7), or its refusal with 11 or 12 (rules, 2.3).
 -- Assumes nothing.
 use Prim.Native.Nat.{ℕ}
 use mathlib.Core.List.{List}

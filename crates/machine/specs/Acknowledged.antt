@@ -1,5 +1,5 @@
--- Code runs exactly when the host has acknowledged a checksum, the ROM's XOR or the CRC of a Run's payload (01, "Demand 3": the host
--- acknowledges a checksum if the byte that the flow takes for it is 06).
+-- Code runs exactly when the host has acknowledged a checksum, the ROM's XOR or the CRC of a Run's payload (rules, 3.7). The host
+-- acknowledges a checksum if the byte that the flow takes for it is 06.
 -- Assumes nothing.
 use Prim.Native.Nat.{ℕ}
 use mathlib.Core.Path.{_≡_}

@@ -1,4 +1,4 @@
--- A call, and a list of calls to one session (01, "Memories and the record": a call acts until it is blocked; "Demand 3": a list).
+-- A call, which acts until it is blocked (rules, 3.2), and a list of calls to one session.
 -- Assumes nothing.
 use Prim.Native.Nat.{ℕ, zero, suc, _+_, _-_, _≤_, _<_}
 use mathlib.Core.Path.{_≡_}

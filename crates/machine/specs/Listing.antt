@@ -1,4 +1,4 @@
--- A list of calls to one session, each with the record and the memories that the one before it left (01, "Demand 3").
+-- A list of calls to one session, each with the record and the memories that the one before it left (rules, 3.5).
 -- Assumes nothing.
 use Prim.Native.Nat.{ℕ, _+_}
 use mathlib.Core.Path.{_≡_}
@@ -22,8 +22,8 @@ pub record Given (M : Type 0) : Type 0 where
   pub session : Record
   pub memories : M
 
--- a list's totals: 01's joined replies (the sent bytes of all calls in call order), its total counts (the calls' counts added up),
--- and the last record and memories
+-- a list's totals: the joined replies (the sent bytes of all calls in call order), the total counts (the calls' counts added up), and
+-- the last record and memories
 abbrev pub totals : {M : Type 0} → Record → M → List (Result M) → Given M
 totals session mem [] = record { replies = []; taken = 0; sent = 0; session = session; memories = mem }
 totals session mem (a ∷ later) =
@@ -55,8 +55,8 @@ module _ {A M S : Type 0} (σ : Session A M S) where
         memories = σ .memories (o .final);
       }
 
-  -- what the definition gives for the uncut stream, from a state on (01: its replies, its memories, how many bytes it took and sent,
-  -- and a record)
+  -- what the definition gives for the uncut stream, from a state on: its replies, its memories, how many bytes it took and sent, and a
+  -- record
   abbrev pub definitionOf : S → (stream : List A) → Given M
   definitionOf start stream = given (uncut (σ .machine) start stream)
 

@@ -1,4 +1,4 @@
--- A session as a deterministic machine over input symbols A and states S (01, "Demand 3": a send, a take, code that runs).
+-- A session as a deterministic machine over input symbols A and states S: it takes, it sends, or code runs (rules, 3.2).
 -- Assumes nothing.
 use Prim.Native.Nat.{ℕ}
 use mathlib.Core.Bool.{Bool, true, false}

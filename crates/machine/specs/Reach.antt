@@ -1,4 +1,4 @@
--- Records that calls can reach (01, "Numbers given back", number 4: every record that calls with these lengths can reach is accepted).
+-- Every record that calls can reach is accepted, with memories of the same lengths (rules, 3.5).
 -- Assumes nothing.
 use Prim.Native.Nat.{ℕ}
 use mathlib.Core.Path.{_≡_}

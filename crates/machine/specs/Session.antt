@@ -1,5 +1,5 @@
--- A session as its caller sees it: a record and memories in, a report, record, reply and memories out (01, "Memories and the
--- record" and "Numbers given back": call refusals).
+-- A session as its caller sees it: a record and memories in, a report, record, reply and memories out (rules, 3.1 to 3.3). A call is
+-- refused for its lengths, and then for its record (rules, 2.1).
 -- Assumes nothing.
 use Prim.Native.Nat.{ℕ}
 use mathlib.Core.Bool.{cond}

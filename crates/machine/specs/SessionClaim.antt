@@ -1,4 +1,4 @@
--- The claim about a whole list of calls to one session (01, "Demand 3, one claim about a whole list").
+-- The claim about a whole list of calls to one session (rules, 3.5).
 -- Assumes nothing.
 use Prim.Native.Nat.{ℕ, _+_, _≤_}
 use mathlib.Core.Path.{_≡_}

@@ -1,5 +1,5 @@
 -- What a session must keep to, so that its lists of calls follow the uncut definition. Every record that calls can reach is read
--- as the state that wrote it (01, "Numbers given back", number 4: every reachable record is accepted).
+-- as the state that wrote it.
 -- Assumes nothing.
 use Prim.Native.Nat.{ℕ, _≤_, _<_}
 use mathlib.Core.Path.{_≡_}

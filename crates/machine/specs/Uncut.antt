@@ -1,4 +1,4 @@
--- The uncut definition (01, "Demand 3": the definition is fed the uncut stream, and its reply room never ends).
+-- The uncut definition (rules, 3.4): it is fed the uncut stream, and its reply room never ends.
 -- Assumes nothing.
 use Prim.Native.Nat.{ℕ, zero, suc}
 use mathlib.Core.Bool.{cond}

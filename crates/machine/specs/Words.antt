@@ -1,4 +1,4 @@
--- A record as eight words, for C.
+-- A record as eight words, for C (rules, 3.1).
 -- Assumes nothing.
 use Prim.Native.Nat.{ℕ}
 use mathlib.Core.List.{List, [], _∷_}

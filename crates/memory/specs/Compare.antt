@@ -1,4 +1,4 @@
--- Bytes compared with those in a memory (01, "uartboot session": if verify is 1, compare).
+-- Bytes compared with those in a memory (rules, 1.7).
 -- Assumes nothing.
 use Prim.Native.Nat.{ℕ}
 use mathlib.Core.Bool.{Bool, true, false, _&&_}

@@ -1,5 +1,5 @@
--- Bytes copied as far as they are there and there are places for them: code and payload as they arrive (01, "ROM receiver", "uartboot
--- session"), an answer as far as there is room.
+-- Bytes copied as far as they are there and have places (rules, 1.7): code and payload as they arrive, an answer as far as there is
+-- room.
 -- Assumes nothing.
 use Prim.Native.Nat.{ℕ, _-_, min}
 use mathlib.Core.Path.{_≡_}

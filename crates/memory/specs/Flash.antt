@@ -1,5 +1,5 @@
--- Flash (01, "Memories and the record": erase sets bytes to 0xFF, a flash store leaves old AND new; "uartboot session": Erase erases
--- every 4,096-byte sector touching the area).
+-- Flash, in sectors of 4,096 bytes (rules, 1.2 and 1.7). A store leaves old AND new. An erasure sets every sector that touches the area
+-- to FF.
 -- Assumes nothing.
 use Prim.Native.Nat.{ℕ, _+_, _-_, _*_, _/_, _<_, _≤_}
 use mathlib.Core.Path.{_≡_}

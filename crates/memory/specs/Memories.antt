@@ -1,4 +1,4 @@
--- The three memories of a uartboot session, and the lengths that they may have (01, "Memories and the record").
+-- The memories of a uartboot session (rules, 1.3), and the lengths that they may have.
 -- Assumes nothing.
 use Prim.Native.Nat.{ℕ}
 use mathlib.Core.Path.{_≡_}

@@ -1,4 +1,4 @@
--- Bytes stored in a memory (01, "ROM receiver": the code, stored as it arrives; "uartboot session": a RAM store).
+-- Bytes stored in a memory (rules, 1.7).
 -- Assumes nothing.
 use Prim.Native.Nat.{ℕ}
 use mathlib.Core.List.{List, _++_}

@@ -1,4 +1,4 @@
--- Little-endian numbers (01, "uartboot session" and "Dual image": numbers little-endian), over how many bytes they have.
+-- Little-endian numbers of any width (rules, 1.6).
 -- Assumes nothing.
 use Prim.Native.Nat.{ℕ, zero, suc, _+_, _*_, _/_, _%_}
 use mathlib.Core.List.{List, [], _∷_}

@@ -1,4 +1,4 @@
--- An offer of two image files (01, "Version text" and "Numbers given back": offer).
+-- An offer of two image files (rules, 11.1 and 11.2), or its refusal with 62, 63 or 61 (rules, 2.3).
 -- Assumes nothing.
 use Prim.Native.Nat.{ℕ}
 use mathlib.Core.List.{List, []}

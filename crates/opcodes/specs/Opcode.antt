@@ -1,4 +1,4 @@
--- The nine opcodes, a row for each (01, "uartboot session": the table; reasons 11 and 12).
+-- The opcodes, a row for each (rules, 6.6).
 -- Assumes nothing.
 use Prim.Native.Nat.{ℕ}
 use mathlib.Core.Path.{_≡_}
@@ -11,7 +11,7 @@ use Rattle.opcodes.specs.declared.Shape.{Shape}
 use Rattle.opcodes.specs.declared.Lookup.{Lookup}
 use Rattle.opcodes.specs.declared.Lookup.the-variants.{Known, Unknown}
 
--- unknown opcode; a length that the opcode doesn't have
+-- the reasons: unknown opcode; a length that the opcode doesn't have
 abbrev pub unknownOpcode : ℕ
 unknownOpcode = 11
 
@@ -40,7 +40,7 @@ pub record SameShape (a b : Shape) : Type 0 where
   pub same-more : a .2 ≡ b .2
   pub same-answers : a .3 ≡ b .3
 
--- all nine
+-- all of them
 abbrev pub opcodes : List Opcode
 opcodes = Write ∷ Read ∷ Copy ∷ Erase ∷ Run ∷ ReadQspi ∷ Version ∷ ChipErase ∷ DirectWrite ∷ []
 
@@ -62,7 +62,7 @@ hasLength opcode size = let s = shapeOf opcode in cond (s .2) (ltb (s .1) size) 
 abbrev pub hasAnswer : Opcode → Bool
 hasAnswer opcode = shapeOf opcode .3
 
--- where an opcode's data begin
+-- where an opcode's data begin in a payload (rules, 6.7)
 abbrev pub dataPlace : Opcode → ℕ
 dataPlace opcode = shapeOf opcode .1
 

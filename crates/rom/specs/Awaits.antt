@@ -1,4 +1,4 @@
--- Where a receiver takes the byte for its checksum (01, "Demand 3": after the ROM's XOR).
+-- Where a receiver takes the byte for its checksum (rules, 3.7): after the XOR.
 -- Assumes nothing.
 use mathlib.Core.Bool.{Bool, true, false}
 use Rattle.rom_flow.specs.declared.step.Step.{Step}

@@ -1,5 +1,4 @@
--- The receiver's session: a call on a record, input, reply and RAM (01, "Memories and the record" and "Numbers given back": call
--- refusals 2 and 4).
+-- The receiver's session: a call on a record, input, reply and RAM. It is refused with 2 or 4 (rules, 2.1).
 -- Assumes nothing.
 use Prim.Native.Nat.{ℕ}
 use mathlib.Core.Bool.{cond}

@@ -1,5 +1,5 @@
--- The receiver's flow (01, "ROM receiver", and "Numbers given back": reasons 31 to 34). Each line says what a step does: it takes a
--- byte, and the byte says where the flow goes, or it sends a byte and goes on.
+-- The receiver's flow (rules, 4.2 to 4.4). Each line says what a step does: it takes a byte, and the byte says where the flow goes, or it
+-- sends a byte and goes on.
 -- Assumes nothing.
 use Prim.Native.Nat.{ℕ, _+_}
 use mathlib.Core.Bool.{cond}
@@ -23,7 +23,7 @@ use Rattle.rom_flow.specs.State.{State, state}
 abbrev pub firstExtended : ℕ
 firstExtended = 65536
 
--- the reasons: the first byte is not 01, kind P with length 0, a length above the RAM, a last byte other than 06
+-- the reasons (rules, 2.2): the first byte is not 01, kind P with length 0, a length above the RAM, a last byte other than 06
 abbrev pub notSoh : ℕ
 notSoh = 31
 
@@ -55,7 +55,7 @@ abbrev pub codeStep : (total count : ℕ) → Step
 codeStep total count = cond (ltb count total) (TakeCode total count) (SendXor total)
 
 module _ (kind : Kind) (reason : ℕ) (ram : List ℕ) where
-  -- the flow goes on; the last reason and the RAM stay
+  -- the flow goes on; the last reason and the RAM stay (rules, 3.1)
   abbrev pub goes : Step → State
   goes step = state kind step reason ram
 

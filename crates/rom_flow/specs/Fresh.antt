@@ -1,4 +1,4 @@
--- A fresh receiver (01, "Memories and the record": a fresh record; "Demand 3": it starts at the flow's first step with last reason 0).
+-- A fresh receiver (rules, 3.1): it starts at the flow's first step with last reason 0.
 -- Assumes nothing.
 use Prim.Native.Nat.{ℕ}
 use mathlib.Core.List.{List}
@@ -9,7 +9,7 @@ use Rattle.rom_flow.specs.declared.kind.Kind.the-variants.{P, E}
 use Rattle.rom_flow.specs.declared.step.Step.the-variants.{SendStx}
 use Rattle.rom_flow.specs.State.{State, state}
 
--- the numbers of the kinds
+-- the numbers of the kinds (rules, 4.1)
 abbrev pub kindNumber : Kind → ℕ
 kindNumber P = 0
 kindNumber E = 1

@@ -1,5 +1,5 @@
--- Demand 2's definition of a session (01, "Demand 3", first paragraph): fed the kind, the memories as first lent and the uncut stream, it
--- gives its replies, its memories, how many bytes it took and sent, and a record.
+-- The definition of a session (rules, 3.4): fed the kind, the memories as first lent and the uncut stream, it gives its replies, its
+-- memories, how many bytes it took and sent, and a record.
 -- Assumes nothing.
 use Prim.Native.Nat.{ℕ}
 use mathlib.Core.List.{List}

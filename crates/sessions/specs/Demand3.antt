@@ -1,5 +1,5 @@
--- Demand 3 (01, "Demand 3, one claim about a whole list"): one statement for all three kinds, all memories, every stream of bytes and
--- every list of calls, the refused ones among them. Its lines stand in machine's Reach and SessionClaim, over any session:
+-- Demand 3, the claim about a whole list of calls (rules, 3.5): one statement for all kinds, all memories, every stream of bytes and every
+-- list of calls, the refused ones among them. Its lines are stated in machine's Reach and SessionClaim, over any session:
 --   reach             a session starts at the record that is handed out for it; this and every record that calls can reach are accepted
 --   definition-ends   the definition stops when a take finds the stream empty, or when code runs
 --   refused-lengths   where the lengths are refused, all calls are, and nothing changes

@@ -1,4 +1,4 @@
--- Sessions that demand 2's definition shuts out (01, "What nobody may fake").
+-- Sessions that the definition shuts out (rules, 3.8).
 -- Assumes nothing.
 use Prim.Native.Nat.{ℕ, _+_, _<_}
 use mathlib.Core.Path.{_≡_}

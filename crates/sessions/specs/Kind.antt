@@ -1,4 +1,4 @@
--- The three kinds of session (01, "Demand 3": the kind, ROM P, ROM E or uartboot), each with its memories, its states and its flow.
+-- The kinds of session, ROM P, ROM E and uartboot (rules, 3.5), each with its memories, its states and its flow.
 -- Assumes nothing.
 use Prim.Native.Nat.{ℕ}
 use mathlib.Core.Bool.{Bool}
@@ -40,7 +40,7 @@ sessionOf romP = rom
 sessionOf romE = rom
 sessionOf uartboot = device-session.uartboot
 
--- the flow's first step with last reason 0
+-- the state in which the definition starts (rules, 3.4): the flow's first step with last reason 0
 abbrev pub freshOf : (kind : Kind) → MemoriesOf kind → StateOf kind
 freshOf romP = receiver-fresh.fresh P
 freshOf romE = receiver-fresh.fresh E

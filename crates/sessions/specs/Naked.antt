@@ -1,5 +1,5 @@
--- The clause on NAKed commands speaks (01, "Demand 3": NAKed before execution): histories of which the definition says that the
--- command was NAKed, and one of which it does not.
+-- The clause on NAKed commands is not empty (rules, 3.6): histories of which the definition says that the command was NAKed, and one of
+-- which it does not.
 -- Assumes nothing.
 use Prim.Native.Nat.{ℕ, _+_}
 use mathlib.Core.Path.{_≡_}

@@ -1,4 +1,4 @@
--- An image sheet (01, "Version text", its last two sentences, and "Numbers given back": sheet).
+-- An image sheet (rules, 12.1 and 12.2), or its refusal with 67 (rules, 2.3).
 -- Assumes nothing.
 use Prim.Native.Nat.{ℕ}
 use mathlib.Core.List.{List}

@@ -1,4 +1,4 @@
--- Selectors that the definition shuts out (01, "What nobody may fake": one that is stuck on slot 1).
+-- Selectors that the definition shuts out (rules, 3.8): those that are stuck on a slot.
 -- Assumes nothing.
 use Prim.Native.Nat.{ℕ}
 use mathlib.Core.Path.{_≡_}

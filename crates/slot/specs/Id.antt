@@ -1,4 +1,4 @@
--- Which of two image ids is the newer (01, "Dual image": of two valid images the larger id is the newer).
+-- Which of two image ids is the newer (rules, 10.3): the larger one.
 -- Assumes nothing.
 use Prim.Native.Nat.{ℕ}
 use mathlib.Core.Bool.{Bool}

@@ -1,4 +1,4 @@
--- What a product header says (01, "Dual image" and "Numbers given back": selector, 3, 51 and 52).
+-- What a product header says (rules, 10.1), or its refusal with 3, 51 or 52 (rules, 2.3).
 -- Assumes nothing.
 use Prim.Native.Nat.{ℕ, _+_}
 use mathlib.Core.List.{List}
@@ -18,7 +18,7 @@ noHeader = 51
 abbrev pub wrongMark : ℕ
 wrongMark = 52
 
--- the product header, 12 bytes: mark 70 52, version 2, two image offsets of 4; the version is not tested
+-- the product header, 12 bytes: mark 70 52, a version of 2 bytes, two image offsets of 4; the version is not tested
 abbrev pub productLength : ℕ
 productLength = 12
 

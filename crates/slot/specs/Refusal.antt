@@ -1,5 +1,5 @@
--- When a slot is refused (01, "Numbers given back": selector): where flash length and product header are sound, exactly if neither
--- image is valid, and then with 53.
+-- When a slot is refused (rules, 10.2): where flash length and product header are sound, exactly if neither image is valid, and then with
+-- 53.
 -- Assumes nothing.
 use Prim.Native.Nat.{ℕ}
 use mathlib.Core.Path.{_≡_}

@@ -1,4 +1,4 @@
--- The slot that will start (01, "Dual image" and "Numbers given back": selector).
+-- The slot that will start (rules, 10.2), or its refusal with 3, 51, 52 or 53 (rules, 2.3).
 -- Assumes nothing.
 use Prim.Native.Nat.{ℕ}
 use mathlib.Core.List.{List}

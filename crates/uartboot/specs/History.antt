@@ -1,5 +1,5 @@
--- What the history of a session's actions says of it (01, "Demand 3": a command NAKed before execution, and the byte that
--- acknowledges the checksum of a Run).
+-- What the history of a session's actions says of it: a command NAKed before execution (rules, 3.6), and the byte that acknowledges the
+-- checksum of a Run (rules, 3.7).
 -- Assumes nothing.
 use Prim.Native.Nat.{ℕ}
 use mathlib.Core.Path.{_≡_}

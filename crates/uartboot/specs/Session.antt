@@ -1,5 +1,4 @@
--- The session: a call on a record, input, reply and the memories (01, "Memories and the record" and "Numbers given back": call
--- refusals 1, 2, 3 and 4).
+-- The session: a call on a record, input, reply and the memories. It is refused with 1, 2, 3 or 4 (rules, 2.1).
 -- Assumes nothing.
 use Prim.Native.Nat.{ℕ}
 use mathlib.Core.Bool.{cond, not}

@@ -1,6 +1,5 @@
--- uartboot's flow (01, "uartboot session", steps 1 to 5, and "Numbers given back": reasons 13, 19 and 20; those of an opcode, of a
--- command and of its execution stand with these). Each line says what a step does: it takes a byte, and the byte says where the flow
--- goes, or it sends a byte and goes on.
+-- uartboot's flow, steps 1 to 5 (rules, 6.1 to 6.5). Each line says what a step does: it takes a byte, and the byte says where the flow
+-- goes, or it sends a byte and goes on. The reasons of an opcode, of a command and of its execution are stated with these.
 -- Assumes nothing.
 use Prim.Native.Nat.{ℕ, _+_}
 use mathlib.Core.Bool.{cond, not}
@@ -38,7 +37,7 @@ greetingLength = 4
 abbrev pub greeting : (place : ℕ) → ℕ
 greeting place = cond (eqb place 0) 0x02 (cond (eqb place 1) 0x01 (cond (eqb place 2) 0x00 0x03))
 
--- a length above the work buffer; the host's CRC differs; a byte other than 06
+-- the reasons (rules, 2.2): a length above the work buffer; the host's CRC differs; a byte other than 06
 abbrev pub longPayload : ℕ
 longPayload = 13
 
@@ -64,7 +63,7 @@ ends reason opcode (Runs address) m = state (Running address) reason m
 ends reason opcode (Failed why) m = state Refusal why m
 
 module _ (reason : ℕ) (m : Memories) where
-  -- the flow goes on; the last reason and the memories stay
+  -- the flow goes on; the last reason and the memories stay (rules, 3.1)
   abbrev pub goes : Step → State
   goes step = state step reason m
 

@@ -1,4 +1,4 @@
--- A fresh session (01, "Memories and the record": a fresh record; "Demand 3": it starts at the flow's first step with last reason 0).
+-- A fresh session (rules, 3.1): it starts at the flow's first step with last reason 0.
 -- Assumes nothing.
 use Prim.Native.Nat.{ℕ}
 use Rattle.machine.specs.declared.Record.{Record}
@@ -7,7 +7,7 @@ use Rattle.memory.specs.Memories.{Memories}
 use Rattle.uartboot_flow.specs.State.{State, state}
 use Rattle.uartboot_flow.specs.Flow.{first}
 
--- the number of the session's kind
+-- the number of the session's kind (rules, 6.10)
 abbrev pub kindNumber : ℕ
 kindNumber = 2
 

@@ -1,4 +1,4 @@
--- The number that stands at a place of a version field (01, "Version text"): the digits that begin there, where they are a number.
+-- The number at a place of a version field (rules, 8.1): the digits that begin there, where they are a number.
 -- Assumes nothing.
 use Prim.Native.Nat.{ℕ, _+_}
 use mathlib.Core.List.{List, [], _∷_}

@@ -1,4 +1,4 @@
--- The order of two versions (01, "Version text": number by number, -1, 0 or 1; "Numbers given back").
+-- The order of two versions, number by number: -1, 0 or 1 (rules, 8.3), or its refusal with 61 (rules, 2.3).
 -- Assumes nothing.
 use Prim.Native.Nat.{ℕ}
 use mathlib.Core.List.{List, [], _∷_}

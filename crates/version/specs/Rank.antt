@@ -1,4 +1,4 @@
--- The rank of a version field (01, "Version text": four numbers, missing ones 0; "Numbers given back": versions).
+-- The rank of a version field: four numbers, missing ones 0 (rules, 8.2), or its refusal with 61 (rules, 2.3).
 -- Assumes nothing.
 use Prim.Native.Nat.{ℕ, _-_}
 use mathlib.Core.List.{List, _++_, map}

@@ -1,4 +1,4 @@
--- Version text (01, "Version text"): one to four decimal numbers 0 to 65,535, dots between, no leading zero (a lone 0 is good), then
+-- Version text (rules, 8.1): one to four decimal numbers 0 to 65,535, dots between, no leading zero (a lone 0 is good), then
 -- only 00 to byte 16.
 -- Assumes nothing.
 use Prim.Native.Nat.{ℕ, _+_, _*_, _-_}

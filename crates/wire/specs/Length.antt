@@ -1,4 +1,4 @@
--- The lengths that the memories may have (01, "Memories and the record", and "Numbers given back": 1, 2 and 3).
+-- The lengths that the memories may have (rules, 1.1 to 1.3), and the numbers given for other lengths.
 -- Assumes nothing.
 use Prim.Native.Nat.{ℕ, _%_}
 use mathlib.Core.Bool.{Bool, _&&_}

@@ -1,4 +1,4 @@
--- The bytes of the serial line (01, "ROM receiver" and "uartboot session"): 02 starts a flow, 01 a header, 06 accepts, 15 refuses.
+-- The bytes of the serial line (rules, 3.1): 02 starts a flow, 01 a header, 06 accepts, 15 refuses.
 -- Assumes nothing.
 use Prim.Native.Nat.{ℕ}
 

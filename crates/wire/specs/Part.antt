@@ -1,4 +1,4 @@
--- Parts of lent slices.
+-- Parts of lent slices (rules, 11.2).
 -- Assumes nothing.
 use Prim.Native.Nat.{ℕ, _+_}
 use mathlib.Core.Path.{_≡_}

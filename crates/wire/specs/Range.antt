@@ -1,5 +1,4 @@
--- Ranges (01, "Numbers given back", reason 16: a range not wholly in its memory). The sums are sums of natural numbers, so
--- 0xFFFFFFFF plus 1 is 0x100000000.
+-- Ranges (rules, 1.5). The sums are sums of natural numbers, so 0xFFFFFFFF plus 1 is 0x100000000.
 -- Assumes nothing.
 use Prim.Native.Nat.{ℕ, _+_, _-_}
 use mathlib.Core.Bool.{Bool, _&&_, cond}

@@ -1,4 +1,4 @@
--- RAM addresses and flash offsets, two separate units (01, "Memories and the record").
+-- RAM addresses and flash offsets, two separate units (rules, 1.1 and 1.4).
 -- Assumes nothing.
 use Prim.Native.Nat.{ℕ}
 use mathlib.Core.Bool.{Bool}
