@@ -277,7 +277,7 @@ def hexes(part):
 
 
 def lines():
-    """Each row, and what comes after it."""
+    """Each row, and what comes after it on its line."""
     for word in [marks(w) for w in RANKS] + LENGTHS:
         n, numbers = rank(field(word))
         yield "version " + word, ": number %d, rank %s" % (n, " ".join(map(str, numbers)))

@@ -12,11 +12,11 @@ use Rattle.called.specs.declared.Called.{Called}
 abbrev pub calledOf : Report → Called
 calledOf r = record { number = r .number; standing = r .standing; taken = r .taken; sent = r .sent }
 
--- the words after a call: a refused call leaves them
+-- the words after a call: a refused call leaves them as they were
 abbrev pub wordsAfter : Report → (words : List ℕ) → List ℕ
 wordsAfter r words = cond (eqb (r .number) 0) (wordsOf (r .session)) words
 
--- over memories M
+-- what C gets, with memories M
 pub record Handed (M : Type 0) : Type 0 where
   pub called : Called
   pub words : List ℕ

@@ -1,4 +1,4 @@
-// The functions by which C makes boot frames.
+// The functions with which C makes boot frames.
 ghost use mathlib.Core.Path.{_≡_};
 ghost use Rattle.rom_flow.specs.declared.kind.Kind.the-variants.{P, E};
 ghost use Rattle.frame.specs.Frame.{written, framedOf};

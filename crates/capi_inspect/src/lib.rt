@@ -1,4 +1,4 @@
-// The functions by which C reads headers and commands.
+// The functions with which C reads headers and commands.
 ghost use mathlib.Core.Path.{_≡_};
 ghost use Rattle.inspect.specs.Image.{readImage};
 ghost use Rattle.inspect.specs.Product.{readProduct};

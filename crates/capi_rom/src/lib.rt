@@ -1,4 +1,4 @@
-// The functions by which C has a receiver: a fresh record, and a call.
+// The functions of a receiver for C: a fresh record, and a call.
 ghost use mathlib.Core.Path.{_≡_};
 ghost use Rattle.machine.specs.Session.{resultOf};
 ghost use Rattle.machine.specs.Words.{recordOf, wordsOf};

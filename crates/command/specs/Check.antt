@@ -13,7 +13,8 @@ use Rattle.command.specs.declared.payload.Command.the-variants.{Write, R
 use Rattle.command.specs.declared.check.Checks.{Checks}
 use Rattle.command.specs.Version.{version}
 
--- verify is neither 0 nor 1; a count or size is 0; a range is not wholly in its memory; the answer is longer than the work buffer
+-- the reasons: verify is neither 0 nor 1; a count or size is 0; a range is not wholly in its memory; the answer is longer than the work
+-- buffer
 abbrev pub badVerify : ℕ
 badVerify = 14
 
@@ -30,7 +31,7 @@ abbrev pub checks : (verify count : ℕ) (address : RamAddress) (ram : ℕ) (off
 checks verify count address ram offset flash answer =
     record { verify = verify; count = count; address = address; ram = ram; offset = offset; flash = flash; answer = answer }
 
--- for a command without a range in flash; one without a range in RAM has RAM's first address
+-- the offset for a command without a range in flash; the address for one without a range in RAM is RAM's first
 abbrev pub firstOffset : FlashOffset
 firstOffset = record { 0 = 0 }
 

@@ -20,7 +20,7 @@ addressAt place work = record { 0 = numberAt 4 work place }
 abbrev pub offsetAt : (place : ℕ) (work : List ℕ) → FlashOffset
 offsetAt place work = record { 0 = numberAt 4 work place }
 
--- a payload of `size` bytes stands at the front of the work buffer
+-- a payload of `size` bytes is at the front of the work buffer
 abbrev pub commandOf : Opcode → (size : ℕ) (work : List ℕ) → Command
 commandOf Write size work = command.Write (addressAt 0 work) (size - dataPlace Write)
 commandOf Read size work = command.Read (addressAt 0 work) (numberAt 2 work 4)

@@ -53,7 +53,7 @@ fn tested(
     }
 }
 
-// What is tested of a command; one without a range in a memory has an empty one at its start.
+// What is tested of a command. One without a range in a memory has an empty range at the memory's start.
 fn checks_of(command: Command) -> Checks
     ensures { λ r. ⌜ r ≡ checksOf command ⌝ }
 {

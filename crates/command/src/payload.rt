@@ -11,7 +11,7 @@ use opcodes::data_place;
 use wire::unit::FlashOffset;
 use wire::unit::RamAddress;
 
-// A command with its numbers. The data of Write and of Direct write, so many bytes, stand in the work buffer behind the payload's
+// A command with its numbers. For Write and Direct write the last one counts the data, which are in the work buffer after the payload's
 // numbers.
 pub enum Command {
     Write(RamAddress, u32),
@@ -47,7 +47,7 @@ fn count_at(work: &[u8], place: usize) -> u32
     number16_at(work, place) as u32
 }
 
-// The command that a payload of so many bytes at the front of the work buffer says.
+// The command that a payload of `count` bytes at the front of the work buffer says.
 pub fn command_of(opcode: Opcode, count: u32, work: &[u8]) -> Command
     requires { ⌜ Carried opcode count (length (now work)) ⌝ }
     ensures { λ r. ⌜ r ≡ commandOf opcode count (now (work .entry)) ⌝ }

@@ -23,7 +23,7 @@ pub record Passed (ram flash work : ℕ) (c : Checks) : Type 0 where
   pub in-flash : c .offset .0 + c .flash ≤ flash
   pub answer-fits : c .answer ≤ work
 
--- no reason was given: the test failed to give one, and so did those behind it
+-- no reason was given: this test gave none, and those after it gave none
 no-reason : (t : Bool) (reason rest : ℕ) → 0 < reason → cond t reason rest ≡ 0 → (t ≡ false) × (rest ≡ 0)
 no-reason true reason rest h e = absurd (omega arith)
 no-reason false reason rest h e = (refl, e)

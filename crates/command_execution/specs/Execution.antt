@@ -52,11 +52,11 @@ ended ending after = record { ending = ending; after = after }
 abbrev pub placeOf : RamAddress → ℕ
 placeOf address = address .0 - ramBase
 
--- a Direct write's end: where verify is 1, the bytes must stand in flash; the store stays either way
+-- a Direct write's end: where verify is 1, the bytes must be in flash; the store stays either way
 abbrev pub verified : (verify offset : ℕ) (bytes flash : List ℕ) → Ending
 verified verify offset bytes flash = cond (not (eqb verify 1) || isFront bytes (drop offset flash)) Silent (Failed verifyDiffers)
 
--- the answer stands at the front of the work buffer, whose other bytes stay
+-- the answer is laid at the front of the work buffer, whose other bytes stay
 abbrev pub answered : (bytes : List ℕ) → Memories → Executed
 answered bytes m = ended (Answers (length bytes)) (memories (m .ram) (m .flash) (laid bytes (m .work)))
 
@@ -65,7 +65,7 @@ directWritten verify offset bytes m =
     let flash = changedFrom offset (burnt bytes) (m .flash) in
     ended (verified verify offset bytes flash) (memories (m .ram) flash (m .work))
 
--- what a command does, its checks passed
+-- what a command does once its checks have passed
 abbrev pub performed : Command → Memories → Executed
 performed (Write address n) m =
     ended Silent (memories (changedFrom (placeOf address) (laid (partOf (dataPlace op.Write) n (m .work))) (m .ram)) (m .flash) (m .work))

@@ -26,7 +26,7 @@ use wire::unit::RamAddress;
 // The reason where flash differs from the command's data.
 pub const VERIFY_DIFFERS: u32 = 18;
 
-// How a command ends: without an answer, with an answer of so many bytes at the front of the work buffer, with code running at an
+// How a command ends: without an answer, with an answer of n bytes at the front of the work buffer, with code running at an
 // address, or with a reason.
 pub enum Ending {
     Silent,

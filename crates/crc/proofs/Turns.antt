@@ -1,4 +1,4 @@
--- The turns of the two loops, over bits and over bytes, at every rule.
+-- The turns of the loops over bits and over bytes, at every rule.
 -- Assumes nothing.
 use Prim.Native.Nat.{ℕ, suc, _+_, _≤_, _<_}
 use mathlib.Core.Path.{_≡_, refl, ap, _∙_}

@@ -77,7 +77,7 @@ device = memories (0x00 ∷ []) (replicate 4096 0xFF) (replicate 64 0x00)
 abbrev imageWith : (id : ℕ) → List ℕ
 imageWith id = imageHeaderOf (0x00 ∷ []) id v1-9 0 .bytes ++ 0x00 ∷ []
 
--- a flash of 4,096 bytes: a product header at 0 that names the offsets 12 and 77, an image with each id there, and FF behind them
+-- a flash of 4,096 bytes: a product header at 0 that names the offsets 12 and 77, an image with each id there, and FF after them
 abbrev flashWith : (id id′ : ℕ) → List ℕ
 flashWith id id′ = productHeaderOf 12 77 .bytes ++ imageWith id ++ imageWith id′ ++ replicate 3954 0xFF
 

@@ -8,7 +8,7 @@ use show::hex;
 use show::text;
 use uartboot_flow::kind::Uartboot;
 
-// The first bytes, so many or as many as there are.
+// The first `count` bytes, or as many as there are.
 fn first<'a>(bytes: &'a [u8], count: usize) -> &'a [u8] {
     if count <= bytes.len() {
         &bytes[0..count]

@@ -62,7 +62,7 @@ gives-send s {byte} {next} {stream} e g =
 abbrev ran : Kind → (code ram : List ℕ) → State
 ran kind code ram = state kind (Running firstAddress) 0 (laid code ram)
 
--- behind the header, with a RAM where the code fits
+-- after the header, with a RAM where the code fits
 module _ (kind : Kind) (code ram : List ℕ) (fits : length code ≤ length ram) where
   -- all of the code is stored: its XOR is sent and the last byte is to come
   gives-xor : Gives (state kind (SendXor (length code)) 0 (laid code ram)) (ack ∷ []) (xorOf code ∷ []) (ran kind code ram)

@@ -13,7 +13,7 @@ use Rattle.numbers.specs.Number.{bytesOf}
 use Rattle.rom_flow.specs.Flow.{firstExtended}
 use Rattle.frame.specs.declared.Framed.{Framed}
 
--- the longest code that the length field of a kind can tell
+-- the longest code that the length field of a kind can say
 abbrev pub longest : Kind → ℕ
 longest P = 65535
 longest E = 131071
@@ -23,7 +23,7 @@ abbrev pub isExtended : Kind → (count : ℕ) → Bool
 isExtended P count = false
 isExtended E count = leb firstExtended count
 
--- the shortest length field: two bytes; extended, 00 00 and two bytes of what the length is more than 65,536
+-- the shortest length field: two bytes; extended, 00 00 and two bytes with the length less 65,536
 unfoldable pub lengthField : Kind → (count : ℕ) → List ℕ
 lengthField kind count = cond (isExtended kind count) (0 ∷ 0 ∷ bytesOf 2 (count - firstExtended)) (bytesOf 2 count)
 
@@ -33,7 +33,7 @@ headerOf kind count = soh ∷ lengthField kind count
 abbrev pub frameOf : Kind → (code : List ℕ) → List ℕ
 frameOf kind code = headerOf kind (length code) ++ code ++ ack ∷ []
 
--- the numbers given for no code, for a code that is too long, for an output that is shorter than the frame
+-- the numbers given for no code, for a code that is too long, and for an output that is shorter than the frame
 abbrev pub emptyCode : ℕ
 emptyCode = 41
 
@@ -54,7 +54,7 @@ pub record Written : Type 0 where
 abbrev pub written : Framed → (out : List ℕ) → Written
 written framed out = record { framed = framed; out = out }
 
--- refused, the output is untouched; else it begins with the frame, and its bytes past the frame stay
+-- refused, the output is untouched; else it begins with the frame, and its bytes after the frame stay
 unfoldable pub framedOf : Kind → (code out : List ℕ) → Written
 framedOf kind code out =
     cond (eqb (length code) 0) (written (refused emptyCode) out)

@@ -38,7 +38,7 @@ made-product first second front back f s =
       simp drop-append-add (bytes-number 4 second s),
     )
 
--- what an image header in a memory says; `rest` is what stands behind it
+-- what an image header in a memory says; `rest` is what follows it
 record Says (memory : List ℕ) (offset id size crc : ℕ) (version rest : List ℕ) : Type 0 where
   mark : isMarked memory offset 0x51 ≡ true
   flag : flagAt memory offset ≡ validFlag

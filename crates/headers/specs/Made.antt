@@ -12,7 +12,7 @@ use Rattle.slot.specs.Product.{productInside, productMarked, firstOffset, secon
 use Rattle.headers.specs.ProductHeader.{productHeaderOf}
 use Rattle.headers.specs.ImageHeader.{imageHeaderOf}
 
--- an image header that isn't refused, with its code behind it: a valid image of that id, size, version and code
+-- an image header that isn't refused, with its code after it: a valid image of that id, size, version and code
 abbrev pub MadeImage : Type 0
 MadeImage =
     (code version front back : List ℕ) (id time : ℕ) → Bytes code → imageHeaderOf code id version time .number ≡ 0 →

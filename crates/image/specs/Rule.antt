@@ -33,7 +33,8 @@ ruleNumber Crc = 7
 abbrev pub headerInside : (memory : List ℕ) (offset : ℕ) → Bool
 headerInside memory offset = leb (offset + headerLength) (length memory)
 
--- mark 70 51, flag AA, size 1 to 131,072, header and code wholly in the memory, not encrypted, CRC-32 of the code equal
+-- header wholly in the memory, mark 70 51, flag AA, size 1 to 131,072, header and code wholly in the memory, not encrypted, CRC-32 of the
+-- code equal
 unfoldable pub firstBroken : (memory : List ℕ) (offset : ℕ) → Rule
 firstBroken memory offset =
     cond (not (headerInside memory offset)) Header

@@ -1,4 +1,4 @@
-// Images: a header of 64 bytes and the code behind it, in flash or in a file.
+// Images: a header of 64 bytes and the code after it, in flash or in a file.
 pub mod rule;
 
 ghost use mathlib.Core.Path.{_≡_};
@@ -19,7 +19,7 @@ pub const HEADER: usize = 64;
 // The first byte of every mark.
 pub const MARK: u8 = 0x70;
 
-// What stands at an offset of a memory.
+// What is at an offset of a memory.
 pub enum Image {
     // A valid image: its id, and how many bytes of code it has.
     Valid(u8, usize),

@@ -49,7 +49,7 @@ pub fn number_of(rule: Rule) -> u32
     }
 }
 
-// The first rule that the image breaks whose header begins at an offset and lies in the memory.
+// The first rule that an image breaks. Its header begins at an offset and lies in the memory.
 pub fn first_broken(memory: &[u8], offset: usize) -> Rule
     requires { ⌜ offset + headerLength ≤ length (now memory) ⌝ }
     ensures { λ r. ⌜ r ≡ firstBroken (now (memory .entry)) offset ⌝ }

@@ -10,7 +10,7 @@ use Rattle.machine.specs.Machine.{Need, acts, runs, Machine, isRunning}
 use Rattle.machine.specs.History.{Event}
 use Rattle.machine.specs.Acknowledged.{tookByte, acknowledged, RunsExactly}
 
--- who still acts is not running
+-- a machine that still acts is not running code
 pub acts-waits : (n : Need) (views : ℕ) → n ≡ acts views → isRunning n ≡ false
 acts-waits (acts v) views e = refl
 acts-waits runs views e = absurd (let z : _≡_ {A = ℕ} 0 1 = cc in omega arith)

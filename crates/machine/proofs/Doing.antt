@@ -20,20 +20,20 @@ module _ {A S : Type 0} where
   does-line (sends byte next) = lines.sends refl
   does-line runs = lines.ends refl
 
-  -- what is done leaves P, of the events and the state
+  -- P, of the events and the state, holds after what is done
   abbrev pub Leaves : (Good : A → Type 0) (P : List (Event A S) → S → Type 0) → List (Event A S) → S → Does A S → Type 0
   Leaves Good P events s (takes next) = (a : A) → Good a → P (record { state = s; view = a ∷ [] } ∷ events) (next a)
   Leaves Good P events s (sends byte next) = P (record { state = s; view = [] } ∷ events) next
   Leaves Good P events s runs = Unit {0}
 
-  -- where the events say nothing: what follows from what is left is left, whatever the events
+  -- where P says nothing of the events: what follows from P holds after it too, whatever the events
   pub leaves-weaken : (Good : A → Type 0) (P Q : S → Type 0) (events : List (Event A S)) (s : S) (d : Does A S) → ((t : S) → P t → Q t) →
       Leaves Good (λ _ t. P t) [] s d → Leaves Good (λ _ t. Q t) events s d
   leaves-weaken Good P Q events s (takes next) f l = λ a g. f (next a) (l a g)
   leaves-weaken Good P Q events s (sends byte next) f l = f next l
   leaves-weaken Good P Q events s runs f l = tt
 
-  -- nothing is asked of what is left
+  -- where nothing is asked of the state after it
   pub leaves-any : (Good : A → Type 0) (events : List (Event A S)) (s : S) (d : Does A S) → Leaves Good (λ _ t. Any t) events s d
   leaves-any Good events s (takes next) = λ a g. tt
   leaves-any Good events s (sends byte next) = tt

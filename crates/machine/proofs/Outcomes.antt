@@ -1,4 +1,4 @@
--- Outcomes put one behind the other; a test and what stands behind it.
+-- Outcomes joined one after the other; a test and what follows where it passes.
 -- Assumes nothing.
 use native.Mathlib.Nat.{zero-add, add-zero, add-assoc}
 use mathlib.Core.Path.{_≡_, refl}

@@ -61,7 +61,7 @@ module _ {A S : Type 0} (m : Machine A S) {Good : A → Type 0} {Sound : S → T
       Came m start stream (join o (acted (m .says (o .final) view) (m .takes (o .final) view) (m .after (o .final) view)))
   came-on o c views e view v l = record { events = _; way = more (c .way) e v l }
 
-  -- so many actions on a front of what is not yet taken
+  -- `fuel` actions on a front of what is not yet taken
   Acts : (fuel : ℕ) → Type 0
   Acts fuel = (o : Outcome S) → Came m start stream o → (inp : List A) → Begins inp (drop (o .taken) stream) → (room : ℕ) →
       Came m start stream (join o (act m fuel (m .need (o .final)) (o .final) inp room))

@@ -52,7 +52,7 @@ accepts σ r mem input reply e = go (judged σ r mem input reply)
     go (accepted-so a) = a
     go (refused-so n s) = absurd (n e)
 
--- the same of a call that stands somewhere
+-- the same for a call with a standing other than 0
 pub accepts-standing : {A M S : Type 0} (σ : Session A M S) (r : Record) (mem : M) (input : List A) (reply : List ℕ) {standing : ℕ} →
     resultOf σ r mem input reply .report .standing ≡ standing → 0 < standing → Accepts σ r mem input reply
 accepts-standing σ r mem input reply e h = go (judged σ r mem input reply)
@@ -61,7 +61,7 @@ accepts-standing σ r mem input reply e h = go (judged σ r mem input reply)
     go (accepted-so a) = a
     go (refused-so n s) = absurd (let z : ⊥ = omega (arith, e, s) in z)
 
--- what is read stands for one state
+-- what is read is one state
 pub sound-same : {S : Type 0} (a b : S) → sound a ≡ sound b → a ≡ b
 sound-same a b e = cc
 

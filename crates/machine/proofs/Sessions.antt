@@ -63,7 +63,7 @@ leaves-less σ law slot most session mem input reply e =
 pub takes-all : {A M S : Type 0} (σ : Session A M S) {Good : A → Type 0} {Sound : S → Type 0} → Lawful (σ .machine) Good Sound → OneByOne (σ .machine) → TakesAll σ
 takes-all σ law one session mem input reply e = omega (arith, leaves-less σ law 1 one session mem input reply e)
 
--- the calls of the machine behind a list
+-- the machine's call for a call of a list
 abbrev callOf : Lent → Call
 callOf c = offered (c .shown) (length (c .reply))
 

@@ -48,7 +48,7 @@ module _ {S : Type 0} (does : S → Does ℕ S) (due : S → ℕ) where
           length input - i + (length reply′ - (j + count)) < length input - i + (length reply - j)
       sent-less h = omega (arith, h .some, sent-fits h, sends-length m (h .sends))
 
-      -- where the loop stops: for want of a byte, for want of room, since code runs
+      -- where the loop stops: since a byte is missing, since room is missing, since code runs
       pub hungry : needOf (does s) ≡ machine.takeOne → length input ≤ i → Acted m s₀ input old i j 1 s reply
       hungry e h = acted-hungry _ _ _ _ _ law (t .reached) e h
 

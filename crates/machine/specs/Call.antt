@@ -9,12 +9,12 @@ use lib.ListN.{length, take, drop}
 use Rattle.machine.specs.Machine.{Need, acts, runs, Machine}
 use Rattle.machine.specs.Outcome.{Outcome, halt, acted, join}
 
--- one entry of a list: shown so many of the symbols not yet taken, with so much reply room; or a refused call
+-- one entry of a list: a call that is shown `shown` of the symbols not yet taken, with room for `room` reply bytes; or a refused call
 pub data Call : Type 0 where
   offered : (shown room : ℕ) → Call
   refused : Call
 
--- where a call has stopped, with so many symbols left: 1 an action needs more, 2 it needs room, 3 code runs
+-- where a call has stopped, with `left` symbols left: 1 an action needs more, 2 it needs room, 3 code runs
 abbrev pub standingOf : Need → (left : ℕ) → ℕ
 standingOf (acts views) left = cond (ltb left views) 1 2
 standingOf runs left = 3
@@ -23,7 +23,7 @@ module _ {A S : Type 0} (m : Machine A S) where
   abbrev pub standing : S → (left : List A) → ℕ
   standing s left = standingOf (m .need s) (length left)
 
-  -- at most so many actions, each as far as the input shows its symbols and the room holds its bytes
+  -- at most `fuel` actions, each as far as the input shows its symbols and the room holds its bytes
   unfoldable pub act : (fuel : ℕ) → Need → S → (input : List A) (room : ℕ) → Outcome S
   act zero need s input room = halt s
   act (suc fuel) runs s input room = halt s

@@ -24,7 +24,7 @@ module _ {A S : Type 0} (m : Machine A S) where
 
   -- o is what a list of calls gives from `start` over a stream, u what the uncut definition gives
   pub record Agrees (start : S) (stream : List A) (o u : Outcome S) : Type 0 where
-    -- the definition stops for want of input, or since code runs
+    -- the definition stops since input is missing, or since code runs
     pub definition-stops : Stopped (u .final) (drop (u .taken) stream)
     -- always: the replies are a beginning of the definition's, and no more is taken
     pub replies-begin : Begins (o .replies) (u .replies)
@@ -36,7 +36,7 @@ module _ {A S : Type 0} (m : Machine A S) where
         let input = take shown (drop (o .taken) stream) in
         let c = call m (o .final) input room in
         Stopped (c .final) (drop (c .taken) input)
-    -- both were come to by actions of the machine
+    -- actions of the machine lead to both
     pub history : Came m start stream o × Came m start stream u
 
   -- for every list of calls over every stream of good symbols, from every sound state

@@ -4,7 +4,7 @@ use Prim.Native.Nat.{ℕ}
 use Rattle.machine.specs.Machine as machine
 use Rattle.machine.specs.Machine.{Need, Machine, line}
 
--- take a symbol, and the symbol says what follows; send a byte, and then stand in another state; nothing, since code runs
+-- take a symbol, and the symbol says what state follows; send a byte, and go on to another state; nothing, since code runs
 pub data Does (A S : Type 0) : Type 0 where
   takes : (A → S) → Does A S
   sends : (byte : ℕ) → S → Does A S

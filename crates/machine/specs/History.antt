@@ -23,17 +23,17 @@ pub data Way {A S : Type 0} (m : Machine A S) (start : S) (stream : List A) : Li
       Way m start stream (record { state = o .final; view = view } ∷ events)
       (join o (acted (m .says (o .final) view) (m .takes (o .final) view) (m .after (o .final) view)))
 
--- some events lead there
+-- some events lead to the outcome
 pub record Came {A S : Type 0} (m : Machine A S) (start : S) (stream : List A) (o : Outcome S) : Type 0 where
   pub events : List (Event A S)
   pub way : Way m start stream events o
 
--- they lead somewhere
+-- these events lead to some outcome
 pub record Leads {A S : Type 0} (m : Machine A S) (start : S) (stream : List A) (events : List (Event A S)) : Type 0 where
   pub outcome : Outcome S
   pub way : Way m start stream events outcome
 
--- the events of at most so many actions on what is left of a stream, put before those so far; the room never ends
+-- the events of at most `fuel` actions on what is left of a stream, put before those so far; the room never ends
 unfoldable pub trace : {A S : Type 0} → Machine A S → (fuel : ℕ) → Need → S → (rest : List A) → List (Event A S) → List (Event A S)
 trace m zero need s rest events = events
 trace m (suc fuel) runs s rest events = events

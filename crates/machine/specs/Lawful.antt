@@ -1,5 +1,5 @@
--- What a machine must keep to. Its count of the actions that follow one another with nothing in view falls by one with each of
--- them: a count that is too small would drop replies, and nothing would show it.
+-- What a machine must keep to. It counts the actions that follow one another with nothing in view, and the count falls by one with each
+-- of them. A count that is too small would drop replies, and nothing would show it.
 -- Assumes nothing.
 use Prim.Native.Nat.{ℕ, suc, _≤_, _<_}
 use mathlib.Core.Path.{_≡_}

@@ -9,8 +9,8 @@ use Rattle.machine.specs.Machine.{Machine}
 use Rattle.machine.specs.Call.{standing, call}
 
 module _ {A S : Type 0} (m : Machine A S) where
-  -- the call at s, with this input and a reply slice that held `old`, took and sent so much, stands at `stands` and `final`, and
-  -- left `reply` in the slice
+  -- the call at s, with this input and a reply slice that held `old`: it took `taken` symbols and sent `sent` bytes, stands at `stands`,
+  -- came to `final`, and left `reply` in the slice
   pub record Acted (s : S) (input : List A) (old : List ℕ) (taken sent stands : ℕ) (final : S) (reply : List ℕ) : Type 0 where
     pub taken-is : taken ≡ call m s input (length old) .taken
     pub sent-is : sent ≡ length (call m s input (length old) .replies)

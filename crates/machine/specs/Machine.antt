@@ -5,7 +5,7 @@ use mathlib.Core.Bool.{Bool, true, false}
 use mathlib.Core.List.{List, [], _∷_}
 use lib.ListN.{length}
 
--- what the next action asks: so many symbols in view; or that there is none, since code runs
+-- what the next action asks: `views` symbols in view; or that there is no action, since code runs
 pub data Need : Type 0 where
   acts : (views : ℕ) → Need
   runs : Need

@@ -12,7 +12,7 @@ use Rattle.machine.specs.Session.{Session, Result, sound, refused, resul
 use Rattle.machine.specs.Listing.{Lent, Given, totals, results, definitionOf, Made}
 use Rattle.machine.specs.declared.Record.{Record}
 
--- a call that stands waiting for more input, or since code runs, and not for room
+-- a call that stopped since input is missing, or since code runs, and not since room is missing
 pub data Stops {M : Type 0} (a : Result M) : Type 0 where
   waits : a .report .standing ≡ 1 → Stops a
   running : a .report .standing ≡ 3 → Stops a
@@ -28,8 +28,8 @@ TakesAll {A} {M} σ =
     (session : Record) (mem : M) (input : List A) (reply : List ℕ) → resultOf σ session mem input reply .report .standing ≡ 1 →
     resultOf σ session mem input reply .report .taken ≡ length input
 
--- where the uncut definition, which gave d for the stream, has stopped: it waits for a symbol with all taken, or code runs, by what a
--- call with no input and no room would report
+-- where the uncut definition, which gave d for the stream, has stopped: it waits for a symbol with all taken, or code runs. A call with
+-- no input and no room would report this
 pub data Ended {A M S : Type 0} (σ : Session A M S) (stream : List A) (d : Given M) : Type 0 where
   waits : d .taken ≡ length stream → resultOf σ (d .session) (d .memories) [] [] .report .standing ≡ 1 → Ended σ stream d
   running : resultOf σ (d .session) (d .memories) [] [] .report .standing ≡ 3 → Ended σ stream d
@@ -46,10 +46,10 @@ module _ {A M S : Type 0} (σ : Session A M S) (Told : List (Event A S) → S �
     pub replies-begin : Begins (g .replies) (definitionOf σ start stream .replies)
     pub taken-within : g .taken ≤ definitionOf σ start stream .taken
     pub sent-within : g .sent ≤ definitionOf σ start stream .sent
-    -- all is taken and the session waits for a byte, or code runs, by what a call with no input and no room would report
+    -- all is taken and the session waits for a byte, or code runs; a call with no input and no room would report this
     pub all-taken : g .taken ≡ length stream → resultOf σ (g .session) (g .memories) [] [] .report .standing ≡ 1 → g ≡ definitionOf σ start stream
     pub code-runs : resultOf σ (g .session) (g .memories) [] [] .report .standing ≡ 3 → g ≡ definitionOf σ start stream
-    -- what is left is less than the next action needs, by what a call shown all of it, with no room, would report
+    -- what is left is less than the next action needs; a call shown all of it, with no room, would report this
     pub too-few-left : Starves (resultOf σ (g .session) (g .memories) (drop (g .taken) stream) []) → g ≡ definitionOf σ start stream
     -- the next call, with room for the replies that are still missing, doesn't wait for room
     pub enough-room : (shown : ℕ) (reply : List ℕ) → definitionOf σ start stream .sent ≤ g .sent + length reply →
@@ -59,7 +59,7 @@ module _ {A M S : Type 0} (σ : Session A M S) (Told : List (Event A S) → S �
     pub reached-is : (g .session ≡ σ .write reached) × (g .memories ≡ σ .memories reached)
     pub reads-as : σ .read (g .session) (g .memories) ≡ sound reached
     pub history : Came (σ .machine) start stream (record { replies = g .replies; taken = g .taken; final = reached })
-    -- what actions of the machine say holds wherever they lead: where the list has come, and at every state on the way
+    -- Told holds wherever actions of the machine lead: where the list has come, and at every state on the way
     pub told : (events : List (Event A S)) (o : Outcome S) → Way (σ .machine) start stream events o → Told events (o .final)
 
 -- Good: the symbols of a stream
@@ -77,7 +77,7 @@ module _ {A M S : Type 0} (σ : Session A M S) (Good : A → Type 0) (Told : Lis
   Claim =
       (mem : M) (stream : List A) → Every Good stream → (cs : List Lent) → Holds mem stream cs (results σ (σ .write (fresh mem)) mem stream cs)
 
-  -- the same of what a program's calls gave back
+  -- the same for what a program's calls gave back
   abbrev pub MadeClaim : Type 0
   MadeClaim =
       (mem : M) (stream : List A) → Every Good stream → (cs : List Lent) (given : List (Result M)) → Made σ (σ .write (fresh mem)) mem stream cs given →

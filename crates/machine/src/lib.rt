@@ -58,7 +58,7 @@ pub fn start(kind: u32) -> Record
     }
 }
 
-// So many bytes further on. That this lies within `end` shows that the sum doesn't wrap.
+// `count` bytes further on. That this lies within `end` shows that the sum doesn't wrap.
 pub fn advance(place: usize, count: usize, end: usize) -> usize
     requires { ⌜ place + count ≤ end ⌝ }
     ensures { λ r. ⌜ r ≡ place + count ⌝ }

@@ -1,4 +1,4 @@
--- Laws of stores: loops that go through a part, a part that was changed and put back, and bytes laid behind others.
+-- Laws of stores: loops that go through a part, a part that was changed and put back, and bytes laid after others.
 -- Assumes nothing.
 use Prim.Native.Nat.{ℕ, suc, _+_, _-_, _<_, _≤_}
 use mathlib.Core.Path.{_≡_, sym, _∙_}
@@ -70,7 +70,7 @@ laid-sets bytes part fits =
 pub laid-length : (bytes part : List ℕ) → length bytes ≤ length part → length (laid bytes part) ≡ length part
 laid-length bytes part fits = simp (length-append, length-drop) (omega arith)
 
--- behind bytes that were laid first: more bytes, laid into the part from there on, and a single byte
+-- after bytes that were laid first: more bytes, laid into the part from there on, and a single byte
 module _ (first memory : List ℕ) where
   pub laid-behind : (bytes : List ℕ) → length first + length bytes ≤ length memory → (place : ℕ) (before part : List ℕ)
       → place ≡ length first → before ≡ laid first memory → part ≡ laid bytes (midOf place (length before - place) before)

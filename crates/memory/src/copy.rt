@@ -1,4 +1,4 @@
-// Bytes copied as far as they are there and there are places for them.
+// Bytes copied as far as they are there and have places.
 ghost use mathlib.Core.Path.{_≡_};
 ghost use Prim.Native.Nat.{_≤_, min};
 ghost use lib.ListN.{length};

@@ -71,7 +71,7 @@ pub fn read32(bytes: &[u8], place: usize) -> Reading
     Reading::Number(number32_at(bytes, at))
 }
 
-// The number that a low part, any number where it comes from a record, and a high byte make.
+// The number that a low part and a high byte make. A low part from a record may be any number.
 pub fn pair(low: u32, high: u8) -> usize
     ensures { λ r. ⌜ r ≡ paired low high ⌝ }
 {

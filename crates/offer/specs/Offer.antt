@@ -23,7 +23,7 @@ badInstalled = 62
 abbrev pub badCandidate : ℕ
 badCandidate = 63
 
--- the numbers that stand for the files
+-- the numbers of the files
 abbrev pub installedFile : ℕ
 installedFile = 1
 
@@ -33,11 +33,11 @@ candidateFile = 2
 abbrev pub refused : (number : ℕ) → Offered
 refused number = record { number = number; file = 0; place = 0; size = 0 }
 
--- a file wins; its code begins behind the header
+-- a file wins; its code begins after the header
 abbrev pub wins : (file size : ℕ) → Offered
 wins file size = record { number = 0; file = file; place = headerLength; size = size }
 
--- by both images, and by how the installed version stands to the candidate's: the higher version wins, the installed one if equal
+-- by both images, and by how the installed version compares with the candidate's: the higher version wins, the installed one if equal
 abbrev pub judged : (installed candidate : Image) → Comparison → Offered
 judged Invalid candidate versions = refused badInstalled
 judged (Valid id size) Invalid versions = refused badCandidate
@@ -54,7 +54,7 @@ offerOf installed candidate =
 abbrev pub fileOf : {A : Type 0} → Offered → (installed candidate : A) → A
 fileOf offered installed candidate = cond (eqb (offered .file) candidateFile) candidate installed
 
--- what an offer hands back: the part that it names of the file that it names, so an empty part of the installed file where it is refused
+-- what an offer hands back: the part that it names of the file that it names; refused, an empty part of the installed file
 abbrev pub HandsBack : (installed candidate part : RefT (List ℕ)) → Type 0
 HandsBack installed candidate part =
     let offered = offerOf (now installed) (now candidate) in

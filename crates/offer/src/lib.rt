@@ -15,10 +15,10 @@ pub const BAD_INSTALLED: u32 = 62;
 // The number given where the candidate is not valid.
 pub const BAD_CANDIDATE: u32 = 63;
 
-// The number that stands for the installed file.
+// The number of the installed file.
 pub const INSTALLED: u32 = 1;
 
-// The number that stands for the candidate.
+// The number of the candidate.
 pub const CANDIDATE: u32 = 2;
 
 // The number 0, the file that wins, and where its code lies there; or a refusal's number and zeros.

@@ -30,7 +30,7 @@ opcode-back Version = refl
 opcode-back ChipErase = refl
 opcode-back DirectWrite = refl
 
--- a list of opcodes is gone through: the one at a place has the number, or those behind it are left
+-- a list of opcodes is gone through: the one at a place has the number, or those after it are left
 module _ (these : List Opcode) (i n : ℕ) (h : i < length these) where
   pub found-here : opcodeNumber (getD these i Write) ≡ n → amongThese (drop i these) n ≡ Known (getD these i Write)
   found-here e = rw (drop-cons these i Write h, eq-eqb _ _ e) refl

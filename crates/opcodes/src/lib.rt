@@ -1,4 +1,4 @@
-// The nine opcodes: a row for each, and what follows from it.
+// The opcodes: a row for each, and what follows from it.
 ghost use mathlib.Core.Path.{_≡_};
 ghost use Rattle.opcodes.specs.Opcode.{shapeOf, SameShape, opcodeNumber, opcodeOf, hasLength, hasAnswer, dataPlace};
 

@@ -1,4 +1,4 @@
--- What a step needs that takes, or sends, so; one byte taken, one sent.
+-- What the step of a taking, or of a sending, needs.
 -- Assumes nothing.
 use Prim.Native.Nat.{ℕ}
 use mathlib.Core.Path.{_≡_, refl, ap}

@@ -19,7 +19,7 @@ use Rattle.rom_flow.specs.State.{state}
 use Rattle.rom_flow.specs.Flow.{goes, doesAt}
 use Rattle.rom_flow.specs.Receiver.{receiver}
 
--- the step that takes so
+-- the step of a taking
 abbrev pub stepOf : Taking → Step
 stepOf (taking.Header step) = Header step
 stepOf (taking.Code total place) = TakeCode total place
@@ -29,12 +29,12 @@ stepOf (taking.Ack total) = TakeAck total
 pub record SendsOn (step : Step) (byte : ℕ) (next : Step) : Type 0 where
   pub is : (kind : Kind) (reason : ℕ) (ram : List ℕ) → doesAt kind reason ram step ≡ sends byte (goes kind reason ram next)
 
--- a step sends so
+-- a step sends this
 abbrev pub SendsSo : Sending → Step → Type 0
 SendsSo (Byte byte next) step = SendsOn step byte next
 SendsSo (Xor total) step = step ≡ SendXor total
 
--- what a sending speaks of lies in a RAM of `size` bytes
+-- the bytes that a sending needs lie in a RAM of `size` bytes
 abbrev pub InRam : Sending → (size : ℕ) → Type 0
 InRam (Byte byte next) size = Unit {0}
 InRam (Xor total) size = total ≤ size
@@ -47,7 +47,7 @@ Asked (Take t) step = step ≡ stepOf t
 Asked (Send t) step = SendsSo t step
 Asked Halt step = Halts step
 
--- what a sending sent, for each kind and each step that sends so
+-- what a sending sent, for each kind and each step that sends it
 pub record SentSo (sending : Sending) (reason : ℕ) (ram : List ℕ) (j : ℕ) (old : List ℕ) (moved : Moved) (reply : List ℕ) : Type 0 where
   pub is : (kind : Kind) (step : Step) → SendsSo sending step →
       Sent receiver (state kind step reason ram) j old (moved .count) (state kind (moved .step) (moved .reason) ram) reply

@@ -41,7 +41,7 @@ abbrev pub xorFrom : (x : ℕ) → List ℕ → ℕ
 xorFrom x [] = x
 xorFrom x (b ∷ bs) = xorFrom (bitXor x b) bs
 
--- of all of them, starting from 00
+-- the XOR of bytes, starting from 00
 unfoldable pub xorOf : List ℕ → ℕ
 xorOf bytes = xorFrom 0 bytes
 
@@ -50,7 +50,7 @@ abbrev pub zeroLength : Kind → (reason : ℕ) (ram : List ℕ) → State
 zeroLength P reason ram = state P SendNak emptyCode ram
 zeroLength E reason ram = state E (Header TakeExtendedLow) reason ram
 
--- where `count` of the code's bytes are in
+-- the step once `count` of the code's bytes are in
 abbrev pub codeStep : (total count : ℕ) → Step
 codeStep total count = cond (ltb count total) (TakeCode total count) (SendXor total)
 
@@ -78,7 +78,7 @@ module _ (kind : Kind) (reason : ℕ) (ram : List ℕ) where
   header TakeExtendedLow = takes (λ byte. goes (Header (TakeExtendedHigh byte)))
   header (TakeExtendedHigh low) = takes (λ byte. judged (firstExtended + paired low byte))
 
-  -- the byte after the XOR: other than 06, nothing is sent, and the flow begins again
+  -- the byte after the XOR: after 06 the code runs; after any other nothing is sent, and the flow begins again
   abbrev pub acked : (byte : ℕ) → State
   acked byte = cond (eqb byte ack) (goes (Running firstAddress)) (state kind SendStx notAcked ram)
 

@@ -16,7 +16,7 @@ use Rattle.rom_flow.specs.Receiver.{receiver}
 pub record EndsIn (p : Progress) (next : Kind → (ram : List ℕ) → State) : Type 0 where
   pub is : (kind : Kind) (ram : List ℕ) → state kind (p .step) (p .reason) ram ≡ next kind ram
 
--- for this kind and a RAM of so many bytes
+-- for this kind and a RAM of `size` bytes
 pub record Gives (size : ℕ) (kind : Kind) (p : Progress) (next : (ram : List ℕ) → State) : Type 0 where
   pub is : (ram : List ℕ) → length ram ≡ size → state kind (p .step) (p .reason) ram ≡ next ram
 

@@ -1,4 +1,4 @@
--- Where a receiver stands: its kind, the flow's step, the last reason and the RAM.
+-- The state of a receiver: its kind, the flow's step, the last reason and the RAM.
 -- Assumes nothing.
 use Prim.Native.Nat.{ℕ}
 use mathlib.Core.List.{List}

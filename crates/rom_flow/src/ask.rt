@@ -13,7 +13,7 @@ pub enum Taking {
     Ack(u32),
 }
 
-// A byte, and the step that follows it; the XOR of so many code bytes.
+// A byte, and the step that follows it; the XOR of n code bytes.
 pub enum Sending {
     Byte(u8, Step),
     Xor(u32),

@@ -10,7 +10,7 @@ pub enum Kind {
     E,
 }
 
-// The first length of kind E that is extended: 00 00, and two bytes of what the length is more than this.
+// The first length of kind E that is extended: 00 00, and two bytes with the length less this.
 pub const FIRST_EXTENDED: usize = 65_536;
 
 // A receiver's session, by the number of its kind.

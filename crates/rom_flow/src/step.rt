@@ -1,4 +1,4 @@
-// Where the receiver's flow stands.
+// The steps of the receiver's flow.
 ghost use mathlib.Core.Path.{_≡_};
 use wire::unit::RamAddress;
 
@@ -38,7 +38,7 @@ pub fn to(step: Step, reason: u32) -> Progress
     }
 }
 
-// The same after so many bytes were taken, or sent.
+// The same after `count` bytes were taken, or sent.
 pub struct Moved {
     pub step: Step,
     pub reason: u32,

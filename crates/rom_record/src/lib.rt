@@ -180,7 +180,7 @@ fn with_kind(kind: Kind, found: Found) -> Decoded
     }
 }
 
-// What a record stands for, with a RAM of so many bytes.
+// What a record stands for, with a RAM of `size` bytes.
 pub fn decode(size: u32, session: Record) -> Decoded
     ensures { λ r. ⌜ r ≡ decodedOf size session ⌝ }
 {

@@ -18,7 +18,7 @@ use Rattle.rom_flow.specs.Due.{due}
 use Rattle.rom_flow.specs.Receiver.{receiver}
 
 module _ (kind : Kind) (total reason : ℕ) where
-  -- with so many of the code's bytes in
+  -- with `count` of the code's bytes in
   abbrev at : (ram : List ℕ) (count : ℕ) → State
   at ram count = state kind (codeStep total count) reason ram
 

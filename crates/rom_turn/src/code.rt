@@ -16,7 +16,7 @@ use wire::unit::RamAddress;
 // The reason where the byte after the XOR is not 06.
 pub const NOT_ACKED: u32 = 34;
 
-// Where so many of the code's bytes are in.
+// The step once `count` of the code's bytes are in.
 fn code_step(total: u32, count: u32) -> Step
     ensures { λ r. ⌜ r ≡ codeStep total count ⌝ }
 {

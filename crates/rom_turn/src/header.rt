@@ -11,7 +11,7 @@ use rom_flow::step::Step;
 use rom_flow::step::to;
 use wire::line::SOH;
 
-// The reason where a header doesn't start with 01.
+// The reason where a header does not begin with 01.
 pub const NOT_SOH: u32 = 31;
 
 // The reason where kind P's length is 0.
@@ -20,7 +20,7 @@ pub const EMPTY_CODE: u32 = 32;
 // The reason where the length is above the RAM's.
 pub const LONG_CODE: u32 = 33;
 
-// A length that is not zero, with a RAM of so many bytes.
+// A length that is not zero, with a RAM of `size` bytes.
 fn judge(size: u32, reason: u32, total: usize) -> Progress
     ensures { λ r. ⌜ GivesEach size r (λ kind ram. judged kind reason ram total) ⌝ }
 {

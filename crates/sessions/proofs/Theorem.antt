@@ -1,4 +1,4 @@
--- Demand 3 holds, for all three kinds.
+-- Demand 3 holds, for all kinds.
 -- Assumes nothing.
 use Prim.Native.Nat.{ℕ}
 use mathlib.Core.List.{List}

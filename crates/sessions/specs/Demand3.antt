@@ -8,8 +8,8 @@
 --   all-taken, code-runs   all taken and waiting for a byte, or code running: replies, counts, memories and record are the definition's
 --   too-few-left      the same where what is left is less than the next action needs
 --   enough-room, takes-all   a call with room for the replies waits for a byte, unless code runs; it then has taken all it was shown
---   reached, reached-is, reads-as, history   the state that the list has come to, by actions of the flow; its record is read as it
---   told              what the actions of the flow tell holds where the list has come, and at every state on the way
+--   reached, reached-is, reads-as, history   the state that the list has come to, by actions of the flow; its record is read as that state
+--   told              what is told below holds where the list has come, and at every state on the way
 -- Assumes nothing.
 use Prim.Native.Nat.{ℕ}
 use mathlib.Core.List.{List}

@@ -18,7 +18,7 @@ use Rattle.sessions.specs.Fakes.{small}
 unfoldable pub historyOf : Memories → (stream : List ℕ) → List (Event ℕ State)
 historyOf m stream = trace device (length stream + 16) (device .need (fresh m)) (fresh m) stream []
 
--- an Erase with a length that it doesn't have; one with size 0; one with a header that is accepted
+-- an Erase with a length that it doesn't have; one with a header that is accepted; that one with size 0 in its payload
 abbrev pub refusedHeader : List ℕ
 refusedHeader = 0x01 ∷ 0x04 ∷ 0x07 ∷ 0x00 ∷ []
 

@@ -1,1 +1,1 @@
-// What is said of all three kinds of session together: ROM P, ROM E and uartboot. It has no code of its own.
+// What is said of all kinds of session together: ROM P, ROM E and uartboot. It has no code of its own.

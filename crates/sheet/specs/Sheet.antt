@@ -29,11 +29,12 @@ placeOf file = placed (imageAt file 0)
 unfoldable pub codePlace : (file : List ℕ) → ℕ
 codePlace file = placeOf file .place
 
--- the file's code, or as many other bytes, lies from a place on
+-- as many bytes as the file has code lie in the file from a place on
 unfoldable pub liesFrom : (file : List ℕ) (place : ℕ) → Bool
 liesFrom file place = liesIn place (placeOf file .size) 0 (length file)
 
--- what a sheet shows that holds a file and any place: so many bytes from there on, or an empty part where they do not lie in the file
+-- what a sheet shows that holds a file and any place: as many bytes from there on as the file has code, or an empty part where these do
+-- not lie in the file
 abbrev pub Shows : (file : RefT (List ℕ)) (place : ℕ) (part : RefT (List ℕ)) → Type 0
 Shows file place part =
     IsPart part file (cond (liesFrom (now file) place) place 0) (cond (liesFrom (now file) place) (placeOf (now file) .size) 0)

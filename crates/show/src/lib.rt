@@ -9,7 +9,7 @@ pub fn decimal(number: u64) {
     io::print_decimal(STDOUT_FILENO, number);
 }
 
-// A number in hexadecimal, with zeros in front up to `width` digits.
+// A number in hexadecimal, with zeros before it up to `width` digits.
 pub fn hex(number: u64, width: usize) {
     io::print_hex(STDOUT_FILENO, number, width);
 }
@@ -19,7 +19,7 @@ fn byte(value: u8) {
     hex(value as u64, 2);
 }
 
-// Bytes in hexadecimal, a blank in front of each.
+// Bytes in hexadecimal, a blank before each.
 pub fn bytes(bytes: &[u8]) {
     for i in 0..bytes.len() {
         byte(bytes[i]);

@@ -23,7 +23,7 @@ use Rattle.slot.specs.Fakes.{Routine, Keeps, StuckOn, NobodyIsStuck}
 abbrev imageWith : (id : ℕ) → List ℕ
 imageWith id = 0x70 ∷ 0x51 ∷ 0xAA ∷ id ∷ 0x01 ∷ 0x00 ∷ 0x00 ∷ 0x00 ∷ 0x8D ∷ 0xEF ∷ 0x02 ∷ 0xD2 ∷ replicate 53 0x00
 
--- a whole flash of 4,096 bytes: a product header that names the offsets 12 and 77, two valid images there, and FF behind them
+-- a whole flash of 4,096 bytes: a product header that names the offsets 12 and 77, two valid images there, and FF after them
 abbrev flashWith : (id id′ : ℕ) → List ℕ
 flashWith id id′ =
     0x70 ∷ 0x52 ∷ 0x00 ∷ 0x00 ∷ 0x0C ∷ 0x00 ∷ 0x00 ∷ 0x00 ∷ 0x4D ∷ 0x00 ∷ 0x00 ∷ 0x00

@@ -20,11 +20,11 @@ pub const NO_HEADER: u32 = 51;
 // The number given where its mark is wrong.
 pub const WRONG_MARK: u32 = 52;
 
-// What stands at an offset of a flash.
+// What is at an offset of a flash.
 pub enum Product {
     // A product header: the flash offsets of image 1 and of image 2.
     Images(u32, u32),
-    // None; the number given.
+    // No product header; the number given.
     Refused(u32),
 }
 

@@ -2,7 +2,7 @@
 ghost use Prim.Native.Nat.{_<_, _≤_};
 ghost use lib.ListN.{length};
 
-// Where the line ends that begins at `start`: behind its last byte, 0A.
+// Where the line ends that begins at `start`: after its last byte, 0A.
 pub fn line_end(rows: &[u8], start: usize) -> usize
     requires { ⌜ start < length (now rows) ⌝ }
     ensures { λ r. ⌜ (start < r) × (r ≤ length (now (rows .entry))) ⌝ }

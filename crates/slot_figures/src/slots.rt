@@ -43,7 +43,7 @@ fn number_at(row: &[u8], start: usize) -> u64
     number(part(row, start, start + NUMBER))
 }
 
-// An offset, a blank, and the bytes that stand there.
+// An offset, a blank, and the bytes there.
 fn put(flash: &mut [u8], row: &[u8], start: usize, digits: usize)
     requires { ⌜ (start < 256) × (digits < 256) ⌝ }
 {

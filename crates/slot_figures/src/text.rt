@@ -11,7 +11,7 @@ fn decimals(values: &[u64]) {
     }
 }
 
-// An answer's number, and its values behind their names.
+// An answer's number, and its values after their names.
 pub fn answer(number: u32, names: &[u8], values: &[u64]) {
     show::text(b": number");
     blank_decimal(number as u64);

@@ -39,7 +39,7 @@ use Rattle.uartboot.proofs.Histories as histories
 abbrev Same : Memories → State → Type 0
 Same m s = (s .mem .ram ≡ m .ram) × (s .mem .flash ≡ m .flash)
 
--- until its execution a command leaves RAM and flash; NAKed before, it is over
+-- until its execution a command leaves RAM and flash as they were; once it is NAKed before that, it is over
 abbrev pub Began : Last → State → Type 0
 Began history.none s = Unit {0}
 Began (since m false) s = isBefore (s .step) ≡ true → Same m s

@@ -55,7 +55,7 @@ isBefore (Answer opcode length step) = false
 isBefore Refusal = false
 isBefore (Running address) = false
 
--- an action leaves RAM and flash, or it executes
+-- an action leaves RAM and flash as they were, or it executes a command
 pub data Goes (s t : State) : Type 0 where
   quiet : Stores s t → (isBefore (t .step) ≡ true → isBefore (s .step) ≡ true) → Goes s t
   acts : isBefore (s .step) ≡ true → isBefore (t .step) ≡ false → isEarly (s .step) ≡ false → Goes s t

@@ -28,7 +28,7 @@ isGo SendCrcLow = false
 isGo SendCrcHigh = false
 isGo TakeGo = true
 
--- the same of a Run
+-- the same for a Run
 abbrev pub awaitsRun : Step → Bool
 awaitsRun (Greeting place) = false
 awaitsRun (Header step) = false

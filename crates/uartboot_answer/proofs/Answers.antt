@@ -30,7 +30,7 @@ shown-few size place work old j end count reply c fits =
     omega arith
 
 module _ (opcode : Opcode) (size reason : ℕ) (ram flash work : List ℕ) where
-  -- with so many of the answer's bytes sent
+  -- with `count` of the answer's bytes sent
   abbrev at : (count : ℕ) → State
   at count = state (showed opcode size count) reason (memories ram flash work)
 

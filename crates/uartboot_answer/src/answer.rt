@@ -11,7 +11,7 @@ use uartboot_flow::step::AnswerStep;
 use uartboot_flow::step::Moved;
 use uartboot_flow::step::Step;
 
-// So many of the answer's bytes are sent.
+// The step once `count` of the answer's bytes are sent.
 fn showed(opcode: Opcode, size: u32, count: u32) -> Step
     ensures { λ r. ⌜ r ≡ flow.showed opcode size count ⌝ }
 {

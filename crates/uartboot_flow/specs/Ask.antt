@@ -22,7 +22,7 @@ use Rattle.uartboot_flow.specs.Sound.{Ready}
 use Rattle.uartboot_flow.specs.State.{state}
 use Rattle.uartboot_flow.specs.Device.{device}
 
--- the step that takes so
+-- the step of a taking
 abbrev pub stepOf : Taking → Step
 stepOf (taking.Header step) = Header step
 stepOf (taking.Payload opcode size place) = Command opcode size (TakePayload place)
@@ -38,7 +38,7 @@ pub record SendsOn (step : Step) (byte : ℕ) (next : Step) : Type 0 where
 pub record Halts (step : Step) : Type 0 where
   pub is : (reason : ℕ) (m : Memories) → doesAt reason m step ≡ runs
 
--- a step sends so
+-- a step sends this
 abbrev pub SendsSo : Sending → Step → Type 0
 SendsSo (sending.Byte byte next) step = SendsOn step byte next
 SendsSo (sending.Acceptance opcode size) step = step ≡ Command opcode size SendAck
@@ -59,6 +59,6 @@ ReadyTo (sending.Crc opcode size) m = Ready (Command opcode size SendCrcLow) m
 ReadyTo (sending.CrcHigh opcode size) m = Ready (Command opcode size SendCrcHigh) m
 ReadyTo (sending.Answer opcode size place) m = Ready (Answer opcode size (a.SendAnswer place)) m
 
--- what a sending sent, for each step that sends so
+-- what a sending sent, for each step that sends it
 pub record SentSo (x : Sending) (reason : ℕ) (m : Memories) (j : ℕ) (old : List ℕ) (moved : Moved) (m′ : Memories) (reply : List ℕ) : Type 0 where
   pub is : (step : Step) → SendsSo x step → Sent device (state step reason m) j old (moved .count) (state (moved .step) (moved .reason) m′) reply

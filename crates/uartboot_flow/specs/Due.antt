@@ -17,7 +17,7 @@ use Rattle.uartboot_flow.specs.declared.step.AnswerStep.the-variants as 
 use Rattle.uartboot_flow.specs.State.{State}
 use Rattle.uartboot_flow.specs.Flow.{greetingLength}
 
--- after an execution that ended so: the greeting, an answer's length, nothing, or 15 and the greeting
+-- after an execution, by its ending: the greeting, an answer's length, nothing, or 15 and the greeting
 abbrev pub dueBehind : Ending → ℕ
 dueBehind Silent = greetingLength
 dueBehind (Answers size) = 2

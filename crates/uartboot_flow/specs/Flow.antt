@@ -1,5 +1,5 @@
 -- uartboot's flow, steps 1 to 5 (rules, 6.1 to 6.5). Each line says what a step does: it takes a byte, and the byte says where the flow
--- goes, or it sends a byte and goes on. The reasons of an opcode, of a command and of its execution are stated with these.
+-- goes, or it sends a byte and goes on. The reasons of an opcode, of a command and of its execution are in the crates of these.
 -- Assumes nothing.
 use Prim.Native.Nat.{ℕ, _+_}
 use mathlib.Core.Bool.{cond, not}
@@ -78,7 +78,7 @@ module _ (reason : ℕ) (m : Memories) where
   abbrev pub executes : Opcode → (size : ℕ) → State
   executes opcode size = let e = executed opcode size m in ends reason opcode (e .ending) (e .after)
 
-  -- step 1: the greeting; then bytes dropped until 01, opcode, length LSB, MSB; 11, 12, 13
+  -- step 1: the greeting; then bytes are dropped until 01; then opcode, low and high byte of the length; reasons 11, 12, 13
   abbrev pub greets : (place : ℕ) → Does ℕ State
   greets place = sends (greeting place) (goes (cond (ltb (place + 1) greetingLength) (Greeting (place + 1)) (Header TakeSoh)))
 

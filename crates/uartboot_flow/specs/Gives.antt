@@ -13,7 +13,7 @@ use Rattle.uartboot_flow.specs.Device.{device}
 abbrev pub progress : Step → (reason : ℕ) → Progress
 progress step reason = record { step = step; reason = reason }
 
--- with the memories that it leads to
+-- with these memories
 abbrev pub stateOf : Progress → Memories → State
 stateOf p m = state (p .step) (p .reason) m
 

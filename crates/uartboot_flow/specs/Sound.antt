@@ -17,7 +17,7 @@ use Rattle.uartboot_flow.specs.declared.step.AnswerStep.the-variants as 
 use Rattle.uartboot_flow.specs.State.{State}
 use Rattle.uartboot_flow.specs.Flow.{greetingLength}
 
--- only the header's 06 has commands without payload; a payload's next byte lies in it
+-- a command without payload has only the header's 06; a payload's next byte lies in the payload
 abbrev pub SoundCommand : (size : ℕ) → CommandStep → Type 0
 SoundCommand size SendAck = Unit {0}
 SoundCommand size (TakePayload place) = place < size
@@ -35,7 +35,7 @@ SoundAnswer size a.TakeCrcLow = Unit {0}
 SoundAnswer size (a.TakeCrcHigh low) = Unit {0}
 SoundAnswer size a.SendAck = Unit {0}
 
--- with so many bytes of RAM, and of work buffer
+-- with a RAM of `ram` bytes and a work buffer of `work` bytes
 abbrev pub SoundStep : (ram work : ℕ) → Step → Type 0
 SoundStep ram work (Greeting place) = place < greetingLength
 SoundStep ram work (Header step) = Unit {0}

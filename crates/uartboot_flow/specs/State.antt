@@ -1,4 +1,4 @@
--- Where a uartboot session stands: the flow's step, the last reason and the memories.
+-- The state of a uartboot session: the flow's step, the last reason and the memories.
 -- Assumes nothing.
 use Prim.Native.Nat.{ℕ}
 use Rattle.memory.specs.Memories.{Memories}

@@ -1,4 +1,4 @@
-// The reasons that the flow itself notes; those of an opcode, of a command and of its execution stand with these.
+// The reasons that the flow itself notes. Those of an opcode, of a command and of its execution are in the crates of these.
 
 // The reason where the length is above the work buffer's.
 pub const LONG_PAYLOAD: u32 = 13;

@@ -1,4 +1,4 @@
-// Where the flow stands: groups of steps, and the steps of each group.
+// The steps of the flow: groups of steps, and the steps of each group.
 ghost use mathlib.Core.Path.{_≡_};
 ghost use Rattle.uartboot_flow.specs.Gives.{progress};
 use opcodes::Opcode;
@@ -60,7 +60,7 @@ pub fn to(step: Step, reason: u32) -> Progress
     }
 }
 
-// The same after so many bytes were taken, or sent.
+// The same after `count` bytes were taken, or sent.
 pub struct Moved {
     pub step: Step,
     pub reason: u32,

@@ -1,4 +1,4 @@
-// The header: its bytes, and the three tests after its last one.
+// The header: its bytes, and the tests after its last one.
 ghost use mathlib.Core.Path.{_≡_};
 ghost use mathlib.Core.Bool.{true};
 ghost use lib.ListN.{length};

@@ -19,7 +19,7 @@ use Rattle.uartboot_flow.specs.Due.{due}
 use Rattle.uartboot_flow.specs.Device.{device}
 
 module _ (opcode : Opcode) (size reason : ℕ) (ram flash : List ℕ) where
-  -- with so many of the payload's bytes in
+  -- with `count` of the payload's bytes in
   abbrev at : (work : List ℕ) (count : ℕ) → State
   at work count = arrived reason (memories ram flash work) opcode size count
 

@@ -11,7 +11,7 @@ use uartboot_flow::step::CommandStep;
 use uartboot_flow::step::Moved;
 use uartboot_flow::step::Step;
 
-// Sends the low byte of the payload's CRC as reply byte j, and its high byte behind that where there is room.
+// Sends the low byte of the payload's CRC as reply byte j, and its high byte after that where there is room.
 pub fn send_crc(
     opcode: Opcode,
     size: u32,

@@ -19,7 +19,7 @@ use uartboot_flow::step::Progress;
 use uartboot_flow::step::Step;
 use uartboot_flow::step::to;
 
-// So many of the payload's bytes are in.
+// The step once `count` of the payload's bytes are in.
 fn arrived(
     opcode: Opcode,
     size: u32,

@@ -118,7 +118,7 @@ module _ (ram work : ℕ) where
   nonzero : (n : ℕ) → 0 < n → eqb n 0 ≡ false
   nonzero n some = ne-eqb n 0 (λ e. let z : ⊥ = omega (arith, some) in z)
 
-  -- behind the tests on a command, and on an answer
+  -- after the tests on a command, and on an answer
   payload-back : (opcode : Opcode) (k n p : ℕ) → eqb k 5 ≡ false → ltb k 11 ≡ true → Carried opcode n work → 0 < n
       → withOpcode work (opcodeOf (opcodeNumber opcode)) (fields k (opcodeNumber opcode) n p 0) ≡ At (Command opcode n (payloadStep k p))
   payload-back opcode k n p behind before h some =

@@ -100,7 +100,7 @@ payloadStep phase place =
     (cond (eqb phase 9) SendCrcHigh
     TakeGo)))
 
--- phases 5 to 10, with a work buffer of `work` bytes; without payload only phase 5 is there
+-- phases 5 to 10, with a work buffer of `work` bytes; a command without payload has only phase 5
 abbrev pub commandIn : (work : ℕ) → Opcode → Numbers → Found
 commandIn work opcode n =
     cond (not (hasLength opcode (n .length))) Unsound
@@ -127,7 +127,7 @@ answerIn work opcode n =
     (cond (ltb work (n .length)) Unsound
     (At (Answer opcode (n .length) (answerStep (n .phase) (n .place) (n .held))))))
 
--- code runs in RAM, by the command Run
+-- code runs in RAM, started by the command Run
 abbrev pub runningIn : (ram opcode address : ℕ) → Found
 runningIn ram opcode address =
     cond (not (eqb opcode (opcodeNumber Run))) Unsound

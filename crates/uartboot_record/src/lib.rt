@@ -200,7 +200,7 @@ fn answer_in(work: usize, opcode: Opcode, n: Numbers) -> Found
     Found::At(Step::Answer(opcode, n.length, answer_step(n.phase, n.place, n.held)))
 }
 
-// Code runs at an address in RAM, by the command Run.
+// Code runs at an address in RAM, started by the command Run.
 fn running_in(ram: usize, opcode: u32, address: u32) -> Found
     ensures { λ r. ⌜ r ≡ runningIn ram opcode address ⌝ }
 {

@@ -35,7 +35,7 @@ abbrev decimalOn : (v place : ℕ) → List ℕ → Decimal
 decimalOn v place ds =
     cond ((isEmpty ds || not (eqb v 0)) && leb (valueFrom v ds) largest) (Written (valueFrom v ds) (place + length ds)) Malformed
 
--- the number from a place on, where no digit stands before it, or some do
+-- the number from a place on, where no digit is before it, or some are
 abbrev decimalFrom : Bool → (v place : ℕ) → List ℕ → Decimal
 decimalFrom true v place ds = decimalOf ds place
 decimalFrom false v place ds = decimalOn v place ds

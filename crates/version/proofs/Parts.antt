@@ -1,4 +1,4 @@
--- What stands after the digits with which a part of a text begins.
+-- What follows the digits with which a part of a text begins.
 -- Assumes nothing.
 use Prim.Native.Nat.{ℕ, _-_, _≤_}
 use mathlib.Core.Path.{_≡_, refl, ap}

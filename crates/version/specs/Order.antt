@@ -21,7 +21,7 @@ compared (x ∷ p) (y ∷ q) = cond (ltb x y) Lower (cond (ltb y x) Higher (comp
 unfoldable pub comparedFields : List ℕ → List ℕ → Comparison
 comparedFields a b = cond (wellFormed a && wellFormed b) (compared (rankOf a .rank) (rankOf b .rank)) Malformed
 
--- the number and the order that a comparison stands for
+-- the number and the order of a comparison
 abbrev pub ordered : Comparison → Ordered
 ordered Lower = record { number = 0; order = negsuc 0 }
 ordered Same = record { number = 0; order = pos 0 }

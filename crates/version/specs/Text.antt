@@ -83,7 +83,7 @@ fieldLength = 16
 abbrev pub mostNumbers : ℕ
 mostNumbers = 4
 
--- a field of 16 bytes, with at most four parts, each a number, and only 00 behind them
+-- a field of 16 bytes, with at most four parts, each a number, and only 00 after them
 unfoldable pub wellFormed : List ℕ → Bool
 wellFormed field =
     eqb (length field) fieldLength

@@ -23,7 +23,7 @@ fn is_digit(byte: u8) -> bool
     if byte < b'0' { false } else { byte <= b'9' }
 }
 
-// Whether the digits from `start` to `at`, with their value, are a zero in front of more.
+// Whether the digits from `start` to `at`, with their value, are a zero before more digits.
 fn is_leading_zero(start: usize, at: usize, value: u32) -> bool
     ensures { λ r. ⌜ r ≡ (ltb start at && eqb value 0) ⌝ }
 {

@@ -5,7 +5,7 @@ use crate::rank::MALFORMED;
 use crate::rank::Rank;
 use crate::rank::rank;
 
-// How a version stands to another.
+// How a version compares with another.
 pub enum Comparison {
     Lower,
     Same,

@@ -51,7 +51,7 @@ fn all_zero(field: &[u8], start: usize) -> bool
     true
 }
 
-// Whether a dot stands at a place.
+// Whether a dot is at a place.
 fn is_dot(field: &[u8], place: usize) -> bool
     ensures { λ r. ⌜ r ≡ eqb (getD (now (field .entry)) place 0) dot ⌝ }
 {

@@ -1,4 +1,4 @@
--- Tests: pairs of them, and what stands behind one.
+-- Tests: pairs of them, and what holds after one.
 -- Assumes nothing.
 use mathlib.Core.Path.{_≡_, refl}
 use mathlib.Core.Bool.{Bool, true, false, _&&_, cond}

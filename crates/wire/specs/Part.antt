@@ -6,8 +6,7 @@ use mathlib.Core.List.{List}
 use lib.ListN.{take, drop}
 use denote.Ref.{RefT}
 
--- a slice is the part of another that begins at a place and has so many bytes: it lies in the other's memory there, and holds the
--- same bytes
+-- `part` is the `size` bytes of `whole` from `place` on: it lies there in the same memory, and holds the same bytes
 pub record IsPart (part whole : RefT (List ℕ)) (place size : ℕ) : Type 0 where
   pub memory : part .ptr .0 ≡ whole .ptr .0
   pub begins : part .ptr .1 ≡ place + whole .ptr .1

@@ -10,6 +10,6 @@ use Rattle.wire.specs.declared.range.Place.the-variants.{Inside, Outside
 unfoldable pub liesIn : (start count base size : ℕ) → Bool
 liesIn start count base size = leb base start && leb (start + count) (base + size)
 
--- where such a range begins in the memory
+-- the index in the memory at which such a range begins, or that it is not wholly in the memory
 unfoldable pub placeIn : (start count base size : ℕ) → Place
 placeIn start count base size = cond (liesIn start count base size) (Inside (start - base)) Outside

@@ -1,5 +1,5 @@
-// Ranges as they come over the wire, judged without a sum that could wrap; the two units that a place on the device has, the lengths
-// that memories may have, and the line's bytes.
+// Ranges as they come over the wire, judged without a sum that could wrap; RAM addresses and flash offsets, the lengths that memories
+// may have, and the line's bytes.
 pub mod length;
 pub mod line;
 pub mod range;

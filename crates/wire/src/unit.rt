@@ -1,4 +1,4 @@
-// The two units that a place on the device has.
+// The units of a place on the device: RAM addresses and flash offsets.
 ghost use mathlib.Core.Path.{_≡_};
 ghost use Rattle.wire.specs.Unit.{ramPlace, isInRam, flashPlace};
 use crate::range::Place;

@@ -1,4 +1,4 @@
--- `frame::put_frame`: the header, the code behind it, the last byte behind both.
+-- `frame::put_frame`: the header, the code after it, the last byte after both.
 -- Assumes nothing.
 use Prim.Native.Nat.{_+_, _-_, _≤_, _<_}
 use mathlib.Core.Path.{_≡_, ap, _∙_}

@@ -90,7 +90,7 @@ enum-told-6 c = search needs
 wins-requires-3 : tie.Need-wins-requires-3
 wins-requires-3 c κs = search needs
 
--- how the versions stand to each other
+-- how the versions compare
 versions : (c : tie.After-compare-fields) → comparedFields (versionAt (c .before .before .before .before .before .before .before .before .before .before .before .before .before .args .installed .now) 0) (versionAt (c .before .before .before .before .before .before .before .before .before .before .before .before .before .args .candidate .now) 0) ≡ c .compare-fields .result
 versions c = sym (c .compare-fields .ensures ∙ ap₂ comparedFields (c .before .before .version-of .ensures .bytes) (c .before .version-of2 .ensures .bytes))
 

@@ -7,7 +7,7 @@ use borrow.Author.Needs.{needs}
 use Rattle.uartboot_record.proofs.phase_in.Statement.{statement}
 use Rattle.uartboot_record.proofs.phase_in.Tie as tie
 
--- behind the tests on the phase
+-- after the tests on the phase
 inner : (c : tie.After-opcode-of)
     → let a = c .before .before .before .before .before .before .before .before .before .args in
     phaseIn (a .ram) (a .work) (a .n) ≡ withOpcode (a .work) (c .opcode-of .result) (a .n)

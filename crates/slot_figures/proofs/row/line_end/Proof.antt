@@ -1,4 +1,4 @@
--- `slot_figures::row::line_end`: a line ends behind its start, and in the rows.
+-- `slot_figures::row::line_end`: a line ends after its start, and in the rows.
 -- Assumes nothing.
 use Prim.Native.Nat.{_≤_, _-_}
 use lib.ListN.{length}

@@ -40,7 +40,7 @@ returns c =
 is-leading-zero-requires : tie.Need-is-leading-zero-requires Inv-loop μ-loop
 is-leading-zero-requires c κs = search needs
 
--- a digit stands where the loop is
+-- a digit is where the loop is
 is : (c : tie.Else1 Inv-loop μ-loop) → isDigit (getD (c .before .before .before .before .before .before .args .field .now) (c .before .before .before .before .loop .at) 0) ≡ true
 is c = sym (c .before .is-digit .ensures) ∙ not-false _ (c .if1 .left)
 
