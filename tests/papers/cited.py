@@ -1,7 +1,7 @@
 """Whether every file, definition and C function that a paper cites exists."""
 import re
 
-from tree import NAME, anchors, declared, links, named
+from tree import BLOCK, NAME, anchors, declared, links, named
 
 # What begins so, in a paper's backticks, is a path.
 PATH = re.compile(r"(?:crates|tests|tool|docs|include|bench|\.ci)/[\w.*/{},-]*|(?:README|CONTRIBUTING)\.md|Makefile|crates\.txt")
@@ -27,10 +27,10 @@ def spread(path):
 
 
 def wrong_paths(tree, paper):
-    for quoted in NAME.findall(tree.text(paper)):
+    for quoted in NAME.findall(BLOCK.sub("", tree.text(paper))):
         word = quoted.split(" ")[0]
         if PATH.fullmatch(word):
-            yield from (f"{paper}: there is no {path}" for path in spread(word) if not (tree.glob(path.rstrip("/"))))
+            yield from (f"{paper}: there is no {path}" for path in spread(word) if not tree.glob(path.rstrip("/")))
 
 
 def functions_of_c(tree):

@@ -9,7 +9,7 @@ EDITS = [
     ("definition renamed", ID, "abbrev pub isNewer :", "abbrev pub isYounger :", "Id.antt does not declare isNewer"),
     ("file that is not there", RULES, "slot/specs/Id.antt", "slot/specs/Ids.antt", "there is no crates/slot/specs/Ids.antt"),
     ("file taken away", "docs/DESIGN.md", None, None, "there is no docs/DESIGN.md"),
-    ("path that is not there", "docs/DESIGN.md", "`tests/papers`", "`tests/sheets`", "there is no tests/sheets"),
+    ("path that is not there", "docs/DESIGN.md", "(`tests/model`,", "(`tests/models`,", "there is no tests/models"),
     ("heading that is not there", RULES, "(#changed-by-request)", "(#changed)", "has no heading for #changed"),
     ("C function that is not there", README, "und_frame_e(code", "und_frame(code", "nothing for C has the name und_frame"),
     ("C function renamed", HEADER, "und_ordered und_order(", "und_ordered und_orders(", "nothing for C has the name und_order"),

@@ -4,7 +4,8 @@ from functools import cached_property
 from pathlib import Path
 
 LINK = re.compile(r"\[([^\]\n]*)\]\(([^)\s#]*)(?:#([^)\s]*))?\)")
-NAME = re.compile(r"`([^`]+)`")
+NAME = re.compile(r"`([^`\n]+)`")
+BLOCK = re.compile(r"^```.*?^```$", re.M | re.S)
 
 DEFINED = re.compile(r"^ *(?:abbrev |unfoldable )?(?:pub )?(?:record |data )?((?:[^\s:(){}]+ )+)(?:[({].*)?:(?:\s|$)", re.M)
 WRITTEN = re.compile(r"\b(?:fn|struct|enum|const|mod) (\w+)|^ +([A-Z]\w*)(?=[(,])|^impl (\w+)", re.M)

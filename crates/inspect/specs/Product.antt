@@ -1,4 +1,4 @@
--- What a product header says, in numbers (rules, 10.1), or its refusal with 3, 51 or 52.
+-- What a product header says, in numbers (rules, 10.1), or its refusal with 3, 51 or 52 (rules, 2.3).
 -- Assumes nothing.
 use Prim.Native.Nat.{ℕ}
 use mathlib.Core.List.{List}

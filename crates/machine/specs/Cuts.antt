@@ -1,4 +1,4 @@
--- Over any machine, the cuts of the stream and the room of each call never change the outcome.
+-- Over any machine, the cuts of the stream and the room of each call never change the outcome (rules, 3.5).
 -- Assumes nothing.
 use Prim.Native.Nat.{ℕ, _+_, _≤_}
 use mathlib.Core.Path.{_≡_}

@@ -1,4 +1,4 @@
--- A line's machine from one table: what each state does.
+-- A line's machine from one table: what each state does (rules, 3.2).
 -- Assumes nothing.
 use Prim.Native.Nat.{ℕ}
 use Rattle.machine.specs.Machine as machine

@@ -1,4 +1,5 @@
--- A list of calls to one session, each with the record and the memories that the one before it left (rules, 3.5).
+-- A list of calls to one session, each with the record and the memories that the one before it left (rules, 3.5), and what the
+-- uncut definition gives (rules, 3.4).
 -- Assumes nothing.
 use Prim.Native.Nat.{ℕ, _+_}
 use mathlib.Core.Path.{_≡_}

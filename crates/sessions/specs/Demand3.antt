@@ -21,6 +21,7 @@ use Rattle.machine.specs.SessionClaim.{TakesAll, DefinitionEnds, Claim, MadeCla
 use Rattle.sessions.specs.Kind.{Kind, StateOf, sessionOf, SameOf, freshOf, freshRecordOf, awaitsOf, NakUnchanged}
 
 -- code runs exactly when the host has acknowledged a checksum, and a command NAKed before execution has changed no RAM or flash
+-- (rules, 3.6 and 3.7)
 abbrev pub Told : (kind : Kind) → List (Event ℕ (StateOf kind)) → StateOf kind → Type 0
 Told kind events s = RunsExactly (awaitsOf kind) (sessionOf kind .machine) events s × NakUnchanged kind events s
 

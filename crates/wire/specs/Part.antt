@@ -1,4 +1,4 @@
--- Parts of lent slices (rules, 11.2).
+-- Parts of lent slices (rules, 11.2 and 12.2).
 -- Assumes nothing.
 use Prim.Native.Nat.{ℕ, _+_}
 use mathlib.Core.Path.{_≡_}
