@@ -21,6 +21,7 @@ MACHINES = [["-m64"], ["-m32", "-ffreestanding"]]
 
 CLAIMS = [Path(__file__).with_name(name) for name in ("claims.c", "numbers.c")]
 PHASES = Path(__file__).with_name("phases.c")
+INSTALLED, COMPARE = Path(__file__).with_name("installed.c"), Path(__file__).resolve().parents[1] / "compare"
 
 
 class Differs(Exception):
@@ -64,6 +65,15 @@ def check_header(functions, structs, header):
             raise Differs(f"the header gives {name} the parameters {given}, the sources {wanted[name]}")
 
 
+def check_callers(functions):
+    """Every function is called by the program over the installed library, and by the comparison with the model."""
+    compared = "".join(path.read_text() for path in sorted(COMPARE.glob("*.c")))
+    for where, text in (INSTALLED.name, INSTALLED.read_text()), ("tests/compare", compared):
+        missing = [function.name for function in functions if f"{function.name}(" not in text]
+        if missing:
+            raise Differs(f"{where} does not call {missing}")
+
+
 def run_over(include, archive, source, folder):
     """What a program over the header and the archive says."""
     program = str(folder / source.stem)
@@ -94,6 +104,7 @@ def agree(root, archive):
     with tempfile.TemporaryDirectory() as folder:
         check_header(functions, structs, include / "undalisho.h")
         check_archive(functions, archive)
+        check_callers(functions)
         check_claims(include, archive, Path(folder))
         check_phases(root, archive, Path(folder))
     return len(functions), len(structs)

@@ -1,5 +1,7 @@
 #include "seen.h"
 
+#include "model.h"
+
 #include <stdio.h>
 #include <string.h>
 
@@ -139,9 +141,29 @@ static const wanted all[SEENS] = {
     [SEEN_RUNNING_REFUSED] = {"a running record refused for its opcode", {0, 1, 2, 3, 4, 8, 11, 12, 18, -1}},
 };
 
+/* Whether what is wanted names a number. */
+static bool is_wanted(seen_what what, int number)
+{
+    for (const int *n = all[what].numbers; *n >= 0; n++)
+        if (*n == number)
+            return true;
+    return false;
+}
+
+/* The lists of opcodes above are written out, so that they can't be empty where the model's is. */
+static bool opcodes_wanted(void)
+{
+    for (uint32_t i = 0; i < model_opcodes(); i++)
+        if (!is_wanted(SEEN_OPCODE, model_opcode(i))) {
+            printf("opcode %u is not in the lists of what a run must reach\n", model_opcode(i));
+            return false;
+        }
+    return true;
+}
+
 bool all_seen(void)
 {
-    bool whole = true;
+    bool whole = opcodes_wanted();
     for (int what = 0; what < SEENS; what++) {
         if (!all[what].name) {
             printf("number %d of what a run must reach has no row\n", what);

@@ -12,11 +12,11 @@ def wrong_links(tree, paper):
     for names, path, anchor in links(paper, tree.text(paper)):
         if not tree.exists(path):
             yield f"{paper}: there is no {path}"
-        elif not tree.is_folder(path):
-            text = tree.text(path)
-            yield from (f"{paper}: {path} does not declare {name}" for name in names if name not in named(path) | declared(path, text))
-            if anchor and anchor not in anchors(text):
-                yield f"{paper}: {path} has no heading for #{anchor}"
+            continue
+        text = "" if tree.is_folder(path) else tree.text(path)
+        yield from (f"{paper}: {path} does not declare {name}" for name in names if name not in named(path) | declared(path, text))
+        if anchor and anchor not in anchors(text):
+            yield f"{paper}: {path} has no heading for #{anchor}"
 
 
 def spread(path):
@@ -26,11 +26,22 @@ def spread(path):
         other for word in found[1].split(",") for other in spread(path[:found.start()] + word + path[found.end():])]
 
 
+def named_by(words):
+    """The paths that a command's words name: paths, crates after rt, subjects of the tool's tests."""
+    for place, word in enumerate(words):
+        if PATH.fullmatch(word):
+            yield from spread(word)
+        elif words[0] == "rt" and place > 1 and re.fullmatch(r"[a-z]\w*", word):
+            yield f"crates/{word}"
+        elif words[0] == "tests/tool/run" and place > 1:
+            yield f"tests/tool/test_{word}.py"
+
+
 def wrong_paths(tree, paper):
     for quoted in NAME.findall(BLOCK.sub("", tree.text(paper))):
-        word = quoted.split(" ")[0]
-        if PATH.fullmatch(word):
-            yield from (f"{paper}: there is no {path}" for path in spread(word) if not tree.glob(path.rstrip("/")))
+        words = quoted.split(" ")
+        paths = [path for path in named_by(words) if not path.startswith("build/")]
+        yield from (f"{paper}: there is no {path}" for path in paths if not tree.glob(path.rstrip("/")))
 
 
 def functions_of_c(tree):

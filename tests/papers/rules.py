@@ -1,16 +1,15 @@
-"""Whether docs/RULES.md and the definitions cite each other, and whether its table of numbers is true."""
+"""Whether docs/RULES.md and the definitions cite each other."""
 import re
 
 from tree import links
 
-RULES, HEADER = "docs/RULES.md", "include/undalisho.h"
+RULES = "docs/RULES.md"
 HEADING = re.compile(r"^(?:## (\d+)\.|### (\d+\.\d+)) .*$", re.M)
 END = re.compile(r"^## (?!\d)", re.M)
 PLACE = r"\d+(?:\.\d+)?"
 CITED = re.compile(rf"\brules, ({PLACE}(?:(?:, | and | to ){PLACE})*)")
-ROW = re.compile(r"^\| (\d+) \| (`UND_\w+`|none) \| .* \|$", re.M)
-# The header's enums of refusals and of reasons.
-NUMBERS = re.compile(r"/\* The (?:numbers of refusals|reasons above)\..*?\*/\nenum \{(.*?)\}", re.S)
+# A citation has to be on one line.
+BROKEN = re.compile(r"\(rules,\s*$", re.M)
 
 
 def sections(text):
@@ -71,23 +70,7 @@ def wrong_citations(tree, found):
     for path in [*(path for pattern in patterns for path in tree.glob(pattern)), *tree.papers]:
         if not path.startswith("tests/papers/"):
             yield from (f"{path}: there are no rules, {place}" for place in citations(tree.text(path), found) if place not in found)
-
-
-def wrong_numbers(tree, found):
-    """Each row's number is its definition's and its name's for C; every name for C has a row."""
-    header, rows = tree.text(HEADER), []
-    for row in ROW.finditer(found["2"]):
-        rows.append(row[2].strip("`"))
-        (name,), path, _ = [*links(RULES, row[0])][-1]
-        value = re.search(rf"^{re.escape(name)} = (\d+)$", tree.text(path), re.M)
-        if not value or value[1] != row[1]:
-            yield f"{RULES}: {row[1]} is not the number of {name}"
-        if rows[-1] != "none" and not re.search(rf"\b{rows[-1]} = {row[1]}\b", header):
-            yield f"{RULES}: {row[1]} is not the number of {rows[-1]}"
-    names = [name for numbers in NUMBERS.findall(header) for name in re.findall(r"UND_\w+", numbers)]
-    yield from (f"{RULES}: the table has no {name}" for name in names if name not in rows)
-    if not names:
-        yield f"{HEADER}: no numbers of refusals and reasons"
+            yield from (f"{path}: a citation of rules is not on one line" for _ in BROKEN.findall(tree.text(path)))
 
 
 def wrong(tree):
@@ -95,4 +78,3 @@ def wrong(tree):
     yield from out_of_order(found)
     yield from wrong_citations(tree, found)
     yield from wrong_definitions(tree, found)
-    yield from wrong_numbers(tree, found)

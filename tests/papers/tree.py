@@ -14,10 +14,11 @@ METHOD = re.compile(r"^impl (\w+) \{\n(.*?)^\}", re.M | re.S)
 
 
 class Tree:
-    """Files by their path from the root. `instead` has the text of some, None for one that is missing."""
+    """Files by their path from the root. `instead` has the text of some, None for one that is missing. What a tree `like` this one
+    has read is not read again."""
 
-    def __init__(self, root, instead=None):
-        self.root, self.instead, self.texts = Path(root), instead or {}, {}
+    def __init__(self, root, instead=None, like=None):
+        self.root, self.instead, self.texts = Path(root), instead or {}, like.texts if like else {}
 
     def text(self, path):
         if path in self.instead:
@@ -56,7 +57,7 @@ def methods(text):
 
 
 def named(path):
-    """What a link's text may call a file itself: its path or a part of it, with or without its ending."""
+    """What a link's text may call a file or a folder itself: its path or the end of it, with or without its ending."""
     parts = path.split("/")
     return {"/".join(parts[start:]) for start in range(len(parts))} | {parts[-1].rpartition(".")[0]}
 

@@ -20,10 +20,13 @@ class Readme(bench.Case):
         for line in untimed(picture):
             self.assertIn(line, shown, 'the demo does not show this, or not after the lines before it')
 
-    def test_commands(self):
-        """The subcommands of README's list are those that `help` lists."""
-        listed = set(re.findall(r'^    undalisho (\w+)', README.read_text(), re.MULTILINE))
-        self.assertEqual(listed, set(re.findall(r'^ *undalisho (\w+)', self.tool('help').stdout, re.MULTILINE)) - {'help'})
+    def test_help(self):
+        """README's subcommands and exit codes are those of `help`."""
+        readme, said = README.read_text(), self.tool('help').stdout
+        listed = re.findall(r'^    undalisho (\w+)', readme, re.MULTILINE)
+        self.assertEqual(set(listed), set(re.findall(r'^ *undalisho (\w+)', said, re.MULTILINE)))
+        codes = [' '.join(re.search(r'Exit codes: [^.]*\.', text)[0].split()) for text in (readme, said)]
+        self.assertEqual(*codes)
 
 
 if __name__ == '__main__':

@@ -56,7 +56,7 @@ placeOf address = address .0 - ramBase
 abbrev pub verified : (verify offset : ℕ) (bytes flash : List ℕ) → Ending
 verified verify offset bytes flash = cond (not (eqb verify 1) || isFront bytes (drop offset flash)) Silent (Failed verifyDiffers)
 
--- the answer is laid at the front of the work buffer, whose other bytes stay
+-- the answer is laid at the front of the work buffer, whose other bytes stay (rules, 1.3)
 abbrev pub answered : (bytes : List ℕ) → Memories → Executed
 answered bytes m = ended (Answers (length bytes)) (memories (m .ram) (m .flash) (laid bytes (m .work)))
 

@@ -1,5 +1,5 @@
 -- What a machine must keep to. It counts the actions that follow one another with nothing in view, and the count falls by one with each
--- of them. A count that is too small would drop replies, and nothing would show it.
+-- of them. A count that is too small would drop replies of the uncut definition (rules, 3.4), and nothing would show it.
 -- Assumes nothing.
 use Prim.Native.Nat.{ℕ, suc, _≤_, _<_}
 use mathlib.Core.Path.{_≡_}

@@ -1,4 +1,4 @@
--- How many bytes a receiver sends before it takes one or code runs.
+-- How many bytes a receiver sends before it takes one or code runs (rules, 3.4).
 -- Assumes nothing.
 use Prim.Native.Nat.{ℕ}
 use Rattle.rom_flow.specs.declared.step.Step.{Step}

@@ -1,4 +1,4 @@
--- How many bytes a uartboot session sends before it takes one or code runs.
+-- How many bytes a uartboot session sends before it takes one or code runs (rules, 3.4).
 -- Assumes nothing.
 use Prim.Native.Nat.{ℕ, suc, _-_}
 use mathlib.Core.Bool.{cond}

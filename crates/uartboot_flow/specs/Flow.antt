@@ -104,7 +104,7 @@ module _ (reason : ℕ) (m : Memories) where
       cond (ltb count size) (goes (Command opcode size (TakePayload count)))
       (checkedWith (checked (commandOf opcode size (m .work)) m) opcode size)
 
--- the payload's byte stored at its place
+-- the payload's byte stored at its place (rules, 1.3)
 abbrev pub stored : (place byte : ℕ) → Memories → Memories
 stored place byte m = memories (m .ram) (m .flash) (set (m .work) place byte)
 

@@ -1,5 +1,4 @@
--- Version text (rules, 8.1): one to four decimal numbers 0 to 65,535, dots between, no leading zero (a lone 0 is good), then
--- only 00 to byte 16.
+-- Version text (rules, 8.1): what is before the first 00 of a field, taken apart at its dots.
 -- Assumes nothing.
 use Prim.Native.Nat.{ℕ, _+_, _*_, _-_}
 use mathlib.Core.List.{List, [], _∷_}
