@@ -27,7 +27,7 @@ static const command commands[] = {
      "--kind p|e --port DEVICE CODE [options]\n"
      "options: --raw, --baud N, --wait SECONDS, --label TEXT, --log FILE, --quiet, --json",
      "loads code through the boot ROM's line, and starts it", run_load},
-    {"demo", "[--keep]", "shows all of it with no monitor plugged in", run_demo},
+    {"demo", "[--keep]", "shows a whole visit with no monitor plugged in", run_demo},
 };
 
 enum { COMMANDS = sizeof commands / sizeof *commands };
