@@ -21,7 +21,7 @@ MACHINES = [["-m64"], ["-m32", "-ffreestanding"]]
 
 CLAIMS = [Path(__file__).with_name(name) for name in ("claims.c", "numbers.c")]
 PHASES = Path(__file__).with_name("phases.c")
-INSTALLED, COMPARE = Path(__file__).with_name("installed.c"), Path(__file__).resolve().parents[1] / "compare"
+INSTALLED, COMPARED = "tests/boundary/installed.c", "tests/compare/*.c"
 
 
 class Differs(Exception):
@@ -65,10 +65,10 @@ def check_header(functions, structs, header):
             raise Differs(f"the header gives {name} the parameters {given}, the sources {wanted[name]}")
 
 
-def check_callers(functions):
+def check_callers(functions, root):
     """Every function is called by the program over the installed library, and by the comparison with the model."""
-    compared = "".join(path.read_text() for path in sorted(COMPARE.glob("*.c")))
-    for where, text in (INSTALLED.name, INSTALLED.read_text()), ("tests/compare", compared):
+    for where in INSTALLED, COMPARED:
+        text = "".join(path.read_text() for path in sorted(Path(root).glob(where)))
         missing = [function.name for function in functions if f"{function.name}(" not in text]
         if missing:
             raise Differs(f"{where} does not call {missing}")
@@ -104,7 +104,7 @@ def agree(root, archive):
     with tempfile.TemporaryDirectory() as folder:
         check_header(functions, structs, include / "undalisho.h")
         check_archive(functions, archive)
-        check_callers(functions)
+        check_callers(functions, root)
         check_claims(include, archive, Path(folder))
         check_phases(root, archive, Path(folder))
     return len(functions), len(structs)

@@ -11,7 +11,7 @@ import sys
 import tempfile
 from pathlib import Path
 
-from agree import Differs, agree
+from agree import COMPARED, INSTALLED, Differs, agree
 
 HEADER = "include/undalisho.h"
 CAPI, OFFER = "crates/capi/src/lib.rt", "crates/offer/src/lib.rt"
@@ -20,6 +20,7 @@ CAPI_ROM, CAPI_UARTBOOT, CALLED = "crates/capi_rom/src/lib.rt", "crates/capi_uar
 CAPI_INSPECT, IMAGE_HEADER = "crates/capi_inspect/src/lib.rt", "crates/inspect/src/image_header.rt"
 CAPI_HEADERS, HEADERS, IMAGE = "crates/capi_headers/src/lib.rt", "crates/headers/src/lib.rt", "crates/image/src/lib.rt"
 RANK, ORDER = "crates/version/src/rank.rt", "crates/version/src/order.rt"
+READINGS = "tests/compare/readings.c"
 
 # By file: what is wrong, a text that the file has once, what is put in its place, what the refusal says (a regular expression).
 EDITS = {
@@ -195,6 +196,10 @@ EDITS = {
     IMAGE_HEADER: [("fields swapped", "pub version_place: usize,\n    pub code_place: usize,",
                     "pub code_place: usize,\n    pub version_place: usize,",
                     'static assertion failed: "und_image.code_place: place"')],
+    INSTALLED: [("function that is not called", "und_make_product_header(0,", "product(0,",
+                 r"installed\.c does not call .'und_make_product_header'.")],
+    READINGS: [("function that is not compared", "und_read_command(opcode,", "command(opcode,",
+                r"tests/compare/\*\.c does not call .'und_read_command'.")],
     FRAME: [("unknown field", "pub length: usize,", "pub length: u128,", "'u128' is neither defined here in a form that")],
     OFFER: [("layout that is not C's", "#[repr(C)]\n", "", "'Offered' is neither defined here in a form that is known")],
     ORDER: [("fields swapped", "pub number: u32,\n    pub order: i32,", "pub order: i32,\n    pub number: u32,",
@@ -225,7 +230,8 @@ def numbered_edits(root):
 
 def copy_of(root, tree):
     """The files that agree.py reads."""
-    for path in [Path(root, HEADER), *Path(root).glob("crates/*/src/**/*.rt")]:
+    patterns = (HEADER, INSTALLED, COMPARED, "crates/*/src/**/*.rt")
+    for path in (path for pattern in patterns for path in Path(root).glob(pattern)):
         copy = tree / path.relative_to(root)
         copy.parent.mkdir(parents=True, exist_ok=True)
         shutil.copyfile(path, copy)

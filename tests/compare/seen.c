@@ -150,7 +150,8 @@ static bool is_wanted(seen_what what, int number)
     return false;
 }
 
-/* The lists of opcodes above are written out, so that they can't be empty where the model's is. */
+/* The lists above name their opcodes themselves, so that a run wants them even where the model has lost one. None of
+   the model's may be missing there. */
 static bool opcodes_wanted(void)
 {
     for (uint32_t i = 0; i < model_opcodes(); i++)

@@ -26,8 +26,10 @@ EDITS = [
     # Numbers.
     ("number of a definition", CHECK, "outsideMemory = 16", "outsideMemory = 21", "16 is not the number of outsideMemory"),
     ("number for C", HEADER, "UND_OUTSIDE_MEMORY = 16", "UND_OUTSIDE_MEMORY = 21", "16 is not the number of UND_OUTSIDE_MEMORY"),
-    ("row taken away", RULES, "| 67 | none |", "| 67 |", "no row of numbers"),
-    ("numbers out of order", RULES, "| 14 | `UND_BAD_VERIFY`", "| 15 | `UND_BAD_VERIFY`", "15 is not the number of badVerify"),
+    ("row in another form", RULES, "| 67 | none |", "| 67 |", "no row of numbers"),
+    ("number of another row", RULES, "| 14 | `UND_BAD_VERIFY`", "| 15 | `UND_BAD_VERIFY`", "15 is not the number of badVerify"),
+    ("row out of order", RULES, "| 14 | `UND_BAD_VERIFY`",
+     "| 67 | none | moved | | [`badFile`](../crates/sheet/specs/Sheet.antt) |\n| 14 | `UND_BAD_VERIFY`", "the numbers are not in order"),
     ("other byte sent", RULES, "takes 06; in 6.2 nothing is executed | none |", "takes 06; in 6.2 nothing is executed | 15 |",
      "20 does not send what the header says"),
     ("definition with no row", CHECK, "outsideMemory : ℕ", "outsideMemory : ℕ\n\nlongPayload = 13\n", "the table has no longPayload of"),
@@ -43,8 +45,8 @@ EDITS = [
     ("promise of the definition beside", PROMISES, "`is_ram_length`, `is_flash_length`", "`is_flash_length`, `is_ram_length`",
      "does not name isRamLength"),
     ("law left out", PROMISES, "[`round-trip`](../crates/frame/proofs/RoundTrips.antt)", "", "the law round-trip of"),
-    ("law of another theorem", PROMISES, "[`made-image`, `made-product`]", "[`made-image`, `made-product`, `image-shape`]",
-     "image-shape"),
+    ("law of another theorem", PROMISES, "[`MadeImage`, `MadeProduct`]", "[`MadeImage`]",
+     "made-product of crates/headers/proofs/Made.antt states none of MadeImage"),
     # Groups of crates, and entries of decisions.
     ("crate in no group", README, ", `sheet`;", ";", "the crate sheet is in no group"),
     ("decision numbered twice", "docs/DECISIONS.md", "**101. ", "**100. ", "each number once"),

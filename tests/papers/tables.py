@@ -5,10 +5,10 @@ from rules import RULES, sections
 from tree import links
 
 HEADER, OPCODES = "include/undalisho.h", "crates/opcodes/specs/Opcode.antt"
-ROW = re.compile(r"\| (\d+) \| (?:`(UND_\w+)`|none) \| .* \| (15|none|) ?\| \[`(\w+)`\]\(([^)]*)\) \|")
+ROW = re.compile(r"\| (\d+) \| (?:`(UND_\w+)`|none) \| .* \| ([0-9A-F]{2}|none|) ?\| \[`(\w+)`\]\(([^)]*)\) \|")
 # The header's enums of refusals and of reasons, and its table of reasons.
 NUMBERS = re.compile(r"/\* The (?:numbers of refusals|reasons above)\..*?\*/\nenum \{(.*?)\}", re.S)
-REASONS = re.compile(r"^ \*     (\d+) +(15|none) ", re.M)
+REASONS = re.compile(r"^ \*     (\d+) +([0-9A-F]{2}|none) ", re.M)
 
 
 def table(text):
@@ -32,10 +32,10 @@ def camel(name):
 
 
 def defined(tree):
-    """By file and name, each number of two digits that a definition has and the program uses by the same name."""
+    """By file and name, each number of two or three digits that a definition has and the program uses by the same name."""
     used = {camel(name) for path in tree.glob("crates/*/src/**/*.rt") for name in re.findall(r"const (\w+): u32", tree.text(path))}
     return {(path, name): int(value) for path in tree.glob("crates/*/specs/*.antt")
-            for name, value in re.findall(r"^(\w+) = (\d\d)$", tree.text(path), re.M) if name in used}
+            for name, value in re.findall(r"^(\w+) = (\d{2,3})$", tree.text(path), re.M) if name in used}
 
 
 def wrong_row(tree, header, sent, row):
