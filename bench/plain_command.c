@@ -42,9 +42,12 @@ int plain_has_answer(uint32_t opcode)
     return opcode == READ || opcode == READ_QSPI || opcode == VERSION;
 }
 
-static int in_range(size_t start, size_t count, size_t base, size_t length)
+/* The reason against a range: its first byte is outside its memory, or it runs past the end. */
+static uint32_t judge_range(size_t start, size_t count, size_t base, size_t length)
 {
-    return start >= base && start - base <= length && count <= length - (start - base);
+    if (start < base || start - base >= length)
+        return count ? 16 : 0;
+    return count > length - (start - base) ? 21 : 0;
 }
 
 /* What is tested of a command: its count, its range in RAM, its range in flash, the answer's length. What it doesn't
@@ -75,8 +78,11 @@ static uint32_t judge(uint32_t opcode, const demands *d, const plain_memories *m
         return 14;
     if (d->count == 0)
         return 15;
-    if (!in_range(d->address, d->ram, RAM_BASE, m->ram_len) || !in_range(d->offset, d->flash, 0, m->flash_len))
-        return 16;
+    uint32_t reason = judge_range(d->address, d->ram, RAM_BASE, m->ram_len);
+    if (!reason)
+        reason = judge_range(d->offset, d->flash, 0, m->flash_len);
+    if (reason)
+        return reason;
     return d->answer > m->work_len ? 17 : 0;
 }
 

@@ -263,7 +263,8 @@ und_product_header und_make_product_header(uint32_t first, uint32_t second);
  *     13      15    a payload longer than the work buffer
  *     14      15    verify byte neither 0 nor 1
  *     15      15    count or size 0
- *     16      15    a range that does not lie wholly in its memory
+ *     16      15    a range whose first byte is outside its memory
+ *     21      15    a range that begins in its memory and runs past the end
  *     17      15    an answer longer than the work buffer
  *     18      15    flash differs from the data of a Direct write; what was stored stays
  *     19      15    the host's CRC of an answer differs
@@ -272,6 +273,8 @@ und_product_header und_make_product_header(uint32_t first, uint32_t second);
  *     32      15    kind P: code length 0
  *     33      15    code length above the RAM's
  *     34      none  a byte other than 06 after the XOR; the code stays in RAM and does not run
+ *
+ * Of a Copy, the range in RAM is tested for 16 and 21 before the range in flash.
  */
 
 /* The reasons above. */
@@ -286,6 +289,7 @@ enum {
     UND_VERIFY_DIFFERS = 18,
     UND_CRC_DIFFERS = 19,
     UND_NOT_ACKED = 20,
+    UND_PAST_END = 21,
     UND_ROM_NO_START = 31,
     UND_ROM_EMPTY_CODE = 32,
     UND_ROM_LONG_CODE = 33,

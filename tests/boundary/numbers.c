@@ -66,6 +66,7 @@ static void reasons(void)
     HOLD(UARTBOOT(0x01, 0x12, 6, 0, 2, 0, 0, 0, 0, 0) == UND_BAD_VERIFY);
     HOLD(UARTBOOT(0x01, 0x08, 6, 0, 0, 0, 0, 0, 0, 0) == UND_EMPTY_RANGE);
     HOLD(UARTBOOT(0x01, 0x08, 6, 0, 0, 16, 0, 0, 1, 0) == UND_OUTSIDE_MEMORY);
+    HOLD(UARTBOOT(0x01, 0x08, 6, 0, 0xFF, 15, 0, 0, 2, 0) == UND_PAST_END);
     HOLD(UARTBOOT(0x01, 0x08, 6, 0, 0, 0, 0, 0, 65, 0) == UND_LONG_ANSWER);
     HOLD(UARTBOOT(0x01, 0x12, 6, 0, 1, 0, 0, 0, 0, 1, 0x06) == UND_VERIFY_DIFFERS);
     HOLD(UARTBOOT(0x01, 0x0B, 0, 0, 0x06, 0, 0) == UND_CRC_DIFFERS);

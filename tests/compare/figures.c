@@ -95,4 +95,5 @@ void run_figures(trial *t)
     record_figures(t);
     load_figures(t);
     command_figures(t);
+    range_figures(t);
 }

@@ -13,6 +13,7 @@ void altered_figures(trial *t);
 void record_figures(trial *t);
 void load_figures(trial *t);
 void command_figures(trial *t);
+void range_figures(trial *t);
 
 /* A fresh session. RAM and work buffer hold 00, the flash F0. */
 setting setting_of(uint32_t kind, size_t ram_length, size_t flash_length, size_t work_length);

@@ -17,17 +17,18 @@ static const exchange causes[] = {
     {UARTBOOT, BYTES("\x01\x01\x04\x00"), HEADER_REFUSED, 12},
     {UARTBOOT, BYTES("\x01\x01\x41\x00"), HEADER_REFUSED, 13},
     {UARTBOOT, BYTES("\x01\x12\x41\x00"), HEADER_REFUSED, 13},
-    /* 14 before 16, 15 before 16, 16 before 17 */
+    /* 14 before 16, 15 before 16, 16 and 21 before 17 */
     {UARTBOOT, BYTES("\x01\x12\x06\x00" "\x02" "\xFF\xFF\xFF\xFF" "\x00"), PAYLOAD_REFUSED, 14},
     {UARTBOOT, BYTES("\x01\x02\x06\x00" "\x00\x00\x00\x00" "\x00\x00"), PAYLOAD_REFUSED, 15},
     {UARTBOOT, BYTES("\x01\x03\x0A\x00" "\x00\x00\xFC\x07" "\x00\x00" "\x00\x10\x00\x00"), PAYLOAD_REFUSED, 15},
     {UARTBOOT, BYTES("\x01\x04\x08\x00" "\x00\x10\x00\x00" "\x00\x00\x00\x00"), PAYLOAD_REFUSED, 15},
-    {UARTBOOT, BYTES("\x01\x02\x06\x00" "\x00\x00\xFC\x07" "\x41\x00"), PAYLOAD_REFUSED, 16},
+    {UARTBOOT, BYTES("\x01\x02\x06\x00" "\x10\x00\xFC\x07" "\x41\x00"), PAYLOAD_REFUSED, 16},
+    {UARTBOOT, BYTES("\x01\x02\x06\x00" "\x00\x00\xFC\x07" "\x41\x00"), PAYLOAD_REFUSED, 21},
     {KIND_UARTBOOT, 65, 4096, 64, BYTES("\x01\x02\x06\x00" "\x00\x00\xFC\x07" "\x41\x00"), PAYLOAD_REFUSED, 17},
     /* 0xFFFFFFFF plus 1 doesn't pass, and a size of 32 bits doesn't */
     {UARTBOOT, BYTES("\x01\x02\x06\x00" "\xFF\xFF\xFF\xFF" "\x01\x00"), PAYLOAD_REFUSED, 16},
     {UARTBOOT, BYTES("\x01\x08\x06\x00" "\xFF\xFF\xFF\xFF" "\x01\x00"), PAYLOAD_REFUSED, 16},
-    {UARTBOOT, BYTES("\x01\x04\x08\x00" "\x01\x00\x00\x00" "\xFF\xFF\xFF\xFF"), PAYLOAD_REFUSED, 16},
+    {UARTBOOT, BYTES("\x01\x04\x08\x00" "\x01\x00\x00\x00" "\xFF\xFF\xFF\xFF"), PAYLOAD_REFUSED, 21},
     {UARTBOOT, BYTES("\x01\x04\x08\x00" "\x00\x00\x00\x80" "\x00\x00\x00\x80"), PAYLOAD_REFUSED, 16},
     /* a later reason replaces an earlier one; success doesn't */
     {UARTBOOT, BYTES("\x01\x06\x00\x00" "\x01\x04\x07\x00"),

@@ -1,13 +1,28 @@
 #include "met.h"
 
+#include "met_ranges.h"
 #include "records.h"
 
+#include <stdlib.h>
 #include <string.h>
 
-static void note(meeting *met, seen_what what, uint32_t number)
+void note(meeting *met, seen_what what, uint32_t number)
 {
+    if (met->count == MOST_NOTES)
+        abort();
     met->notes[met->count].what = what;
     met->notes[met->count++].number = number;
+}
+
+/* A payload's reason in one of the lists that begin with reason 14. */
+static void note_reason_of(meeting *met, seen_what of_14, uint32_t reason, uint32_t opcode)
+{
+    static const uint32_t reasons[] = {14, 15, 16, 17, 21};
+    uint32_t i = 0;
+    while (reasons[i] != reason)
+        if (++i == sizeof reasons / sizeof *reasons)
+            abort();
+    note(met, of_14 + i, opcode);
 }
 
 /* Whether the opcode has a longer payload than this one. */
@@ -38,36 +53,6 @@ static void meet_header(meeting *met, const desk *d, uint8_t high)
         note(met, above ? SEEN_HEADER_LONG_ABOVE : SEEN_HEADER_LONG, opcode);
 }
 
-/* A range against its memory; a Run's is one byte. */
-static void meet_range(meeting *met, seen_what to_end, uint32_t opcode, int64_t start, int64_t count, size_t length,
-                       int64_t base)
-{
-    int64_t behind = start + count - (int64_t)length;
-    if (start >= 0 && behind == 0)
-        note(met, to_end, opcode);
-    if (start >= 0 && behind == 1)
-        note(met, to_end + 1, opcode);
-    if (start + base + count > 0xFFFFFFFF)
-        note(met, to_end + 2, opcode);
-}
-
-static void meet_ranges(meeting *met, const desk *d)
-{
-    const model_memories *m = &d->model;
-    uint32_t opcode = met->before[WORD_OPCODE];
-    model_command said = model_read_command(opcode, m->work, met->before[WORD_LENGTH]);
-    int64_t count = opcode == OP_RUN ? 1 : (int64_t)said.count, address = (int64_t)said.address - RAM_BASE;
-    bool in_ram = opcode == OP_WRITE || opcode == OP_READ || opcode == OP_COPY || opcode == OP_RUN;
-    if (in_ram)
-        meet_range(met, SEEN_RAM_TO_END, opcode, address, count, m->ram_length, RAM_BASE);
-    if (in_ram && address == -1)
-        note(met, SEEN_RAM_BEFORE, opcode);
-    if (!in_ram || opcode == OP_COPY)
-        meet_range(met, SEEN_FLASH_TO_END, opcode, said.offset, count, m->flash_length, 0);
-    if (model_has_answer(opcode) && count == (int64_t)m->work_length)
-        note(met, SEEN_ANSWER_FILLS, opcode);
-}
-
 /* The byte that makes a payload whole. */
 static void meet_payload(meeting *met, const desk *d, uint8_t last)
 {
@@ -76,7 +61,7 @@ static void meet_payload(meeting *met, const desk *d, uint8_t last)
     *end = last;
     uint32_t reason = model_judge(opcode, length, &d->model);
     if (d->fresh && reason)
-        note(met, SEEN_PAYLOAD_14 + (reason - 14), opcode);
+        note_reason_of(met, SEEN_PAYLOAD_14, reason, opcode);
     meet_ranges(met, d);
     *end = kept;
 }
@@ -90,7 +75,7 @@ static void meet_execution(meeting *met, const desk *d, uint8_t byte)
     if (byte != ACK)
         note(met, SEEN_NOT_EXECUTED, opcode);
     else if (reason)
-        note(met, (d->fresh ? SEEN_AGAIN_14 : SEEN_GIVEN_14) + (reason - 14), opcode);
+        note_reason_of(met, d->fresh ? SEEN_AGAIN_14 : SEEN_GIVEN_14, reason, opcode);
     else
         note(met, d->fresh ? SEEN_EXECUTED : SEEN_EXECUTED_GIVEN, opcode);
 }

@@ -5,6 +5,8 @@
 #include "desk.h"
 #include "seen.h"
 
+enum { MOST_NOTES = 16 };
+
 typedef struct {
     uint32_t before[WORDS]; /* the record as it was */
     bool executes;          /* its first byte leads to an execution that nothing refuses */
@@ -12,8 +14,10 @@ typedef struct {
     struct {
         seen_what what;
         uint32_t number;
-    } notes[12];
+    } notes[MOST_NOTES];
 } meeting;
+
+void note(meeting *met, seen_what what, uint32_t number);
 
 meeting meeting_before(const desk *d, const uint8_t *input, size_t shown, size_t room);
 void meeting_after(const meeting *met, const desk *d, const model_report *r);

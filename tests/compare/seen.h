@@ -19,18 +19,22 @@ typedef enum {
        too, or that alone; unknown ones, 1 where they have more bytes than the work buffer */
     SEEN_HEADER_ACCEPTED, SEEN_HEADER_SHORT, SEEN_HEADER_LONG, SEEN_HEADER_LONG_ABOVE, SEEN_HEADER_ABOVE,
     SEEN_HEADER_STRANGE,
-    /* payloads by opcode: refused with each reason, in the order of reasons, here and below; ranges that end with their
-       memory, one byte after it, or at 2^32 and more; ranges from the byte before RAM on; answers as long as the work
-       buffer */
-    SEEN_PAYLOAD_14, SEEN_PAYLOAD_15, SEEN_PAYLOAD_16, SEEN_PAYLOAD_17,
-    SEEN_RAM_TO_END, SEEN_RAM_PAST_END, SEEN_RAM_WRAPS, SEEN_FLASH_TO_END, SEEN_FLASH_PAST_END, SEEN_FLASH_WRAPS,
-    SEEN_RAM_BEFORE, SEEN_ANSWER_FILLS,
+    /* payloads by opcode: refused with each reason, in the order of reasons, here and below */
+    SEEN_PAYLOAD_14, SEEN_PAYLOAD_15, SEEN_PAYLOAD_16, SEEN_PAYLOAD_17, SEEN_PAYLOAD_21,
+    /* ranges by opcode: from the memory's first byte on, from its last, from the one after that; inside up to the end,
+       from inside to one byte past it; to 2^32 and more. RAM's from the byte before RAM on, flash's from inside to 2^32
+       and more; of a Copy, how both ranges lie (see below) */
+    SEEN_RAM_FIRST, SEEN_RAM_LAST, SEEN_RAM_AFTER, SEEN_RAM_TO_END, SEEN_RAM_PAST_END, SEEN_RAM_WRAPS,
+    SEEN_FLASH_FIRST, SEEN_FLASH_LAST, SEEN_FLASH_AFTER, SEEN_FLASH_TO_END, SEEN_FLASH_PAST_END, SEEN_FLASH_WRAPS,
+    SEEN_RAM_BEFORE, SEEN_FLASH_INSIDE_WRAPS, SEEN_COPY_RANGES,
+    /* by opcode: answers as long as the work buffer */
+    SEEN_ANSWER_FILLS,
     /* commands by opcode: executed, from a fresh and from a given record; not acknowledged before that, or before the
        answer */
     SEEN_EXECUTED, SEEN_EXECUTED_GIVEN, SEEN_NOT_EXECUTED, SEEN_NOT_ANSWERED,
     /* payloads by opcode that are refused at execution: altered since they were accepted, or given with the record */
-    SEEN_AGAIN_14, SEEN_AGAIN_15, SEEN_AGAIN_16, SEEN_AGAIN_17,
-    SEEN_GIVEN_14, SEEN_GIVEN_15, SEEN_GIVEN_16, SEEN_GIVEN_17,
+    SEEN_AGAIN_14, SEEN_AGAIN_15, SEEN_AGAIN_16, SEEN_AGAIN_17, SEEN_AGAIN_21,
+    SEEN_GIVEN_14, SEEN_GIVEN_15, SEEN_GIVEN_16, SEEN_GIVEN_17, SEEN_GIVEN_21,
     /* by phase: what the session had taken, or was to send, was altered between two calls */
     SEEN_ALTERED_P, SEEN_ALTERED_E, SEEN_ALTERED_UARTBOOT,
     /* the host's CRC of an answer: 1 its low byte is wrong, 2 its high byte, 3 both */
@@ -72,6 +76,10 @@ typedef enum {
     ADDRESS_HIGHEST,
     ADDRESS_OTHER
 } seen_address;
+
+/* How a range lies: wholly in its memory, with its first byte outside, or past the end. A Copy has one in RAM, which
+   counts three times, and one in flash. */
+typedef enum { LIES_INSIDE, LIES_OUTSIDE, LIES_PAST_END, LIES } seen_lies;
 
 void seen(seen_what what, uint32_t number);
 /* Forgets all of it: what figures reached is not for cases to claim. */

@@ -132,31 +132,36 @@ static uint32_t put_numbers(planned *p, const uint64_t *numbers, const int *widt
     return at;
 }
 
+bool takes_data(uint8_t opcode)
+{
+    return opcode == OP_WRITE || opcode == OP_DIRECT_WRITE;
+}
+
+void put_command(planned *p, uint64_t address, uint64_t offset, uint64_t count, uint64_t verify)
+{
+    memset(p->payload, 0, sizeof p->payload);
+    switch (p->opcode) {
+    case OP_WRITE:
+    case OP_RUN: p->length = put_numbers(p, (uint64_t[]){address}, (int[]){4}, 1); break;
+    case OP_READ: p->length = put_numbers(p, (uint64_t[]){address, count}, (int[]){4, 2}, 2); break;
+    case OP_READ_QSPI: p->length = put_numbers(p, (uint64_t[]){offset, count}, (int[]){4, 2}, 2); break;
+    case OP_ERASE: p->length = put_numbers(p, (uint64_t[]){offset, count}, (int[]){4, 4}, 2); break;
+    case OP_COPY: p->length = put_numbers(p, (uint64_t[]){address, count, offset}, (int[]){4, 2, 4}, 3); break;
+    case OP_DIRECT_WRITE: p->length = put_numbers(p, (uint64_t[]){verify, offset}, (int[]){1, 4}, 2); break;
+    default: p->length = 0; break;
+    }
+}
+
 void plan_payload(trial *t, planned *p, const model_memories *m)
 {
-    uint64_t ram = plan_place(t, m->ram_length, RAM_BASE), address = RAM_BASE + ram;
-    uint64_t flash = plan_place(t, m->flash_length, 0);
-    uint32_t data = 0;
-    memset(p->payload, 0, sizeof p->payload);
+    uint64_t ram = plan_place(t, m->ram_length, RAM_BASE), flash = plan_place(t, m->flash_length, 0);
     uint64_t verify = once_in(t->c, 8) ? pick(t->c, 256) : pick(t->c, 2);
     bool in_flash = p->opcode == OP_ERASE || p->opcode == OP_READ_QSPI;
     uint64_t count = in_flash ? plan_count(t, m, m->flash_length, flash) : plan_count(t, m, m->ram_length, ram);
-    switch (p->opcode) {
-    case OP_RUN: p->length = put_numbers(p, (uint64_t[]){address}, (int[]){4}, 1); break;
-    case OP_READ: p->length = put_numbers(p, (uint64_t[]){address, count}, (int[]){4, 2}, 2); break;
-    case OP_READ_QSPI: p->length = put_numbers(p, (uint64_t[]){flash, count}, (int[]){4, 2}, 2); break;
-    case OP_ERASE: p->length = put_numbers(p, (uint64_t[]){flash, count}, (int[]){4, 4}, 2); break;
-    case OP_COPY: p->length = put_numbers(p, (uint64_t[]){address, count, flash}, (int[]){4, 2, 4}, 3); break;
-    case OP_WRITE:
-        p->length = put_numbers(p, (uint64_t[]){address}, (int[]){4}, 1);
-        data = plan_data(t, m, p->length);
-        break;
-    case OP_DIRECT_WRITE:
-        p->length = put_numbers(p, (uint64_t[]){verify, flash}, (int[]){1, 4}, 2);
-        data = plan_data(t, m, p->length);
-        break;
-    default: p->length = 0; break;
-    }
+    put_command(p, RAM_BASE + ram, flash, count, verify);
+    if (!takes_data(p->opcode))
+        return;
+    uint32_t data = plan_data(t, m, p->length);
     fill(t->c, p->payload + p->length, data);
     p->length += data;
 }

@@ -23,6 +23,10 @@ typedef struct {
     uint8_t payload[MOST_WORK + 64];
 } planned;
 
+/* Whether data follows the numbers of its payload. */
+bool takes_data(uint8_t opcode);
+/* The numbers of a planned opcode's payload, each where the command has it. */
+void put_command(planned *p, uint64_t address, uint64_t offset, uint64_t count, uint64_t verify);
 /* The payload of a planned opcode, mostly one that the memories admit. */
 void plan_payload(trial *t, planned *p, const model_memories *memories);
 /* A count of 0, or one above the work buffer's length, from a memory's first byte on, where the planned command has a

@@ -90,9 +90,12 @@ static meaning meaning_of(uint32_t opcode, uint32_t length, const uint8_t *p)
     return it;
 }
 
-static bool lies_in(int64_t first, int64_t count, size_t length)
+/* 16: the first byte is outside; 21: the first byte is inside, the last one is not. */
+static uint32_t judge_range(int64_t first, int64_t count, size_t length)
 {
-    return first >= 0 && first + count <= (int64_t)length;
+    if (first < 0 || first >= (int64_t)length)
+        return 16;
+    return first + count > (int64_t)length ? 21 : 0;
 }
 
 uint32_t model_judge(uint32_t opcode, uint32_t length, const model_memories *m)
@@ -102,10 +105,12 @@ uint32_t model_judge(uint32_t opcode, uint32_t length, const model_memories *m)
         return 14;
     if (it.count == 0)
         return 15;
-    if (it.in_ram && !lies_in(it.ram, it.count, m->ram_length))
-        return 16;
-    if (it.in_flash && !lies_in(it.flash, it.count, m->flash_length))
-        return 16;
+    uint32_t in_ram = it.in_ram ? judge_range(it.ram, it.count, m->ram_length) : 0;
+    if (in_ram)
+        return in_ram;
+    uint32_t in_flash = it.in_flash ? judge_range(it.flash, it.count, m->flash_length) : 0;
+    if (in_flash)
+        return in_flash;
     return it.answers && it.count > (int64_t)m->work_length ? 17 : 0;
 }
 

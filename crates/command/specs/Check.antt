@@ -1,11 +1,14 @@
--- The checks of a command (rules, 2.2 and 6.8): reasons 14, 15, 16 and 17, in that order.
+-- The checks of a command (rules, 2.2 and 6.8): reasons 14 and 15, 16 and 21 for the range in RAM, 16 and 21 for the range in flash, and
+-- 17, in that order.
 -- Assumes nothing.
 use Prim.Native.Nat.{ℕ}
 use mathlib.Core.Bool.{cond, not}
 use lib.Dec.{eqb, ltb}
 use lib.ListN.{length}
 use Rattle.wire.specs.Range.{liesIn}
-use Rattle.wire.specs.Unit.{ramBase, firstAddress}
+use Rattle.wire.specs.declared.range.Place.{Place}
+use Rattle.wire.specs.declared.range.Place.the-variants.{Inside, Outside}
+use Rattle.wire.specs.Unit.{ramBase, firstAddress, ramPlace, flashPlace}
 use Rattle.wire.specs.declared.unit.RamAddress.{RamAddress}
 use Rattle.wire.specs.declared.unit.FlashOffset.{FlashOffset}
 use Rattle.command.specs.declared.payload.Command.{Command}
@@ -13,8 +16,8 @@ use Rattle.command.specs.declared.payload.Command.the-variants.{Write, R
 use Rattle.command.specs.declared.check.Checks.{Checks}
 use Rattle.command.specs.Version.{version}
 
--- the reasons: verify is neither 0 nor 1; a count or size is 0; a range is not wholly in its memory; the answer is longer than the work
--- buffer
+-- the reasons: verify is neither 0 nor 1; a count or size is 0; the first byte of a range is outside its memory; a range begins in its
+-- memory and runs past the end; the answer is longer than the work buffer
 abbrev pub badVerify : ℕ
 badVerify = 14
 
@@ -23,6 +26,9 @@ emptyRange = 15
 
 abbrev pub outsideMemory : ℕ
 outsideMemory = 16
+
+abbrev pub pastEnd : ℕ
+pastEnd = 21
 
 abbrev pub longAnswer : ℕ
 longAnswer = 17
@@ -47,12 +53,17 @@ checksOf Version = checks 0 1 firstAddress 0 firstOffset 0 (length version)
 checksOf ChipErase = checks 0 1 firstAddress 0 firstOffset 0 0
 checksOf (DirectWrite verify offset n) = checks verify n firstAddress 0 offset n 0
 
+-- the reason against a range that is not wholly in its memory, by where its first byte lies: the start is wrong, or the end
+abbrev pub wrongEnd : (first : Place) → ℕ
+wrongEnd (Inside place) = pastEnd
+wrongEnd Outside = outsideMemory
+
 -- the reason of the first test that fails, in memories of these lengths; 0 where none does
 unfoldable pub judged : (ram flash work : ℕ) → Checks → ℕ
 judged ram flash work c =
     cond (ltb 1 (c .verify)) badVerify
     (cond (eqb (c .count) 0) emptyRange
-    (cond (not (liesIn (c .address .0) (c .ram) ramBase ram)) outsideMemory
-    (cond (not (liesIn (c .offset .0) (c .flash) 0 flash)) outsideMemory
+    (cond (not (liesIn (c .address .0) (c .ram) ramBase ram)) (wrongEnd (ramPlace (c .address) 1 ram))
+    (cond (not (liesIn (c .offset .0) (c .flash) 0 flash)) (wrongEnd (flashPlace (c .offset) 1 flash))
     (cond (ltb work (c .answer)) longAnswer
     0))))

@@ -1,6 +1,6 @@
 // The checks of a command.
 ghost use mathlib.Core.Path.{_≡_};
-ghost use Rattle.command.specs.Check.{checks, checksOf, judged};
+ghost use Rattle.command.specs.Check.{checks, checksOf, judged, wrongEnd};
 use crate::payload::Command;
 use crate::version::VERSION;
 use wire::range::Place;
@@ -14,8 +14,11 @@ pub const BAD_VERIFY: u32 = 14;
 // The reason where a count or size is 0.
 pub const EMPTY_RANGE: u32 = 15;
 
-// The reason where a range doesn't lie wholly in its memory.
+// The reason where the first byte of a range is outside its memory.
 pub const OUTSIDE_MEMORY: u32 = 16;
+
+// The reason where a range begins in its memory and runs past the end.
+pub const PAST_END: u32 = 21;
 
 // The reason where the answer is longer than the work buffer.
 pub const LONG_ANSWER: u32 = 17;
@@ -72,6 +75,16 @@ fn checks_of(command: Command) -> Checks
     }
 }
 
+// The reason against a range that doesn't lie wholly in its memory, by the place of its first byte.
+fn wrong_end(first: Place) -> u32
+    ensures { λ r. ⌜ r ≡ wrongEnd first ⌝ }
+{
+    match first {
+        Place::Inside(_) => PAST_END,
+        Place::Outside => OUTSIDE_MEMORY,
+    }
+}
+
 // The reason of the first test that fails, by the lengths of the memories; 0 where none does.
 fn judge(c: Checks, ram: usize, flash: usize, work: usize) -> u32
     ensures { λ r. ⌜ r ≡ judged ram flash work c ⌝ }
@@ -83,10 +96,10 @@ fn judge(c: Checks, ram: usize, flash: usize, work: usize) -> u32
         return EMPTY_RANGE;
     }
     let Place::Inside(_) = c.address.place(c.ram as usize, ram) else {
-        return OUTSIDE_MEMORY;
+        return wrong_end(c.address.place(1, ram));
     };
     let Place::Inside(_) = c.offset.place(c.flash as usize, flash) else {
-        return OUTSIDE_MEMORY;
+        return wrong_end(c.offset.place(1, flash));
     };
     if work < (c.answer as usize) {
         return LONG_ANSWER;

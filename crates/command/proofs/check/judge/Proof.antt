@@ -34,7 +34,7 @@ in-flash : (c : tie.After-enum-told3)
 in-flash c =
     let a = c .before .before .before .before .before .before .before .before .before .before .before .before .args in
     let found = c .enum-told3 .given in
-    lies-inside (a .c .offset .0) (a .c .flash) 0 (a .flash) (found .0 .0) (sym (c .before .before .place2 .ensures) ∙ found .1)
+    lies-inside (a .c .offset .0) (a .c .flash) 0 (a .flash) (found .0 .0) (sym (c .before .before .place3 .ensures) ∙ found .1)
 
 returns : tie.Need-returns
 unfolding judged
@@ -56,21 +56,28 @@ enum-told c = search needs
 enum-told-2 : tie.Need-enum-told-2
 enum-told-2 c = search needs
 
+place-requires-2 : tie.Need-place-requires-2
+place-requires-2 c κs = search needs
+
+wrong-end-requires : tie.Need-wrong-end-requires
+wrong-end-requires c κs = search needs
+
 returns-3 : tie.Need-returns-3
 unfolding judged
 returns-3 c =
-    let found = c .before .before in
+    let missed = c .before .before in
+    let found = missed .before .before in
     let tested = found .before .before in
     let a = tested .before .before .before .before .args in
-    let none = sym (found .place .ensures) ∙ c .enum-told2 .given .1 in
+    let none = sym (found .place .ensures) ∙ missed .enum-told2 .given .1 in
     let outside = lies-outside (a .c .address .0) (a .c .ram) ramBase (a .ram) none in
-    simp (known tested, some tested, outside)
+    simp (known tested, some tested, outside, c .wrong-end .ensures, c .before .place2 .ensures)
 
 cast-place-2 : tie.Need-cast-place-2
 cast-place-2 c = search needs
 
-place-requires-2 : tie.Need-place-requires-2
-place-requires-2 c κs = search needs
+place-requires-3 : tie.Need-place-requires-3
+place-requires-3 c κs = search needs
 
 enum-told-3 : tie.Need-enum-told-3
 enum-told-3 c = search needs
@@ -78,16 +85,23 @@ enum-told-3 c = search needs
 enum-told-4 : tie.Need-enum-told-4
 enum-told-4 c = search needs
 
+place-requires-4 : tie.Need-place-requires-4
+place-requires-4 c κs = search needs
+
+wrong-end-requires-2 : tie.Need-wrong-end-requires-2
+wrong-end-requires-2 c κs = search needs
+
 returns-4 : tie.Need-returns-4
 unfolding judged
 returns-4 c =
-    let found = c .before .before in
+    let missed = c .before .before in
+    let found = missed .before .before in
     let placed = found .before .before in
     let tested = placed .before .before .before .before in
     let a = tested .before .before .before .before .args in
-    let none = sym (found .place2 .ensures) ∙ c .enum-told4 .given .1 in
+    let none = sym (found .place3 .ensures) ∙ missed .enum-told4 .given .1 in
     let outside = lies-outside (a .c .offset .0) (a .c .flash) 0 (a .flash) none in
-    simp (known tested, some tested, in-ram placed, outside)
+    simp (known tested, some tested, in-ram placed, outside, c .wrong-end2 .ensures, c .before .place4 .ensures)
 
 cast-if3 : tie.Need-cast-if3
 cast-if3 c = search needs
@@ -118,11 +132,15 @@ judge-spec =
     place-requires
     enum-told
     enum-told-2
+    place-requires-2
+    wrong-end-requires
     returns-3
     cast-place-2
-    place-requires-2
+    place-requires-3
     enum-told-3
     enum-told-4
+    place-requires-4
+    wrong-end-requires-2
     returns-4
     cast-if3
     returns-5
