@@ -11,7 +11,7 @@ EDITS = [
     ("file taken away", "docs/PERFORMANCE.md", None, None, "there is no docs/PERFORMANCE.md"),
     ("path that is not there", "docs/DESIGN.md", "(`tests/model`,", "(`tests/models`,", "there is no tests/models"),
     ("crate that is not there", "CONTRIBUTING.md", "`rt check sessions`", "`rt check session`", "there is no crates/session"),
-    ("subject that is not there", "CONTRIBUTING.md", "`tests/tool/run build/undalisho reasons`", "`tests/tool/run build/undalisho causes`",
+    ("subject that is not there", "CONTRIBUTING.md", "undalisho reasons ranges`", "undalisho causes ranges`",
      "there is no tests/tool/test_causes.py"),
     ("folder by another name", "CONTRIBUTING.md", "[`capi_rom`]", "[`capi_ram`]", "crates/capi_rom does not declare capi_ram"),
     ("citation over a line's end", ID, "(rules, 10.3", "(rules,\n-- 10.3", "not on one line"),

@@ -1,14 +1,11 @@
 """play uartboot and rom: each reason of a refusal, on the wire and in the log."""
-import struct
-
 import bench
 import model
-from host import ACK, NAK, Host, crc, header
+from host import ACK, NAK, crc, header
 from player import Player
+from reason_case import FLASH, LENGTH, WORDS, ReasonCase
 
 RAM = model.RAM_FIRST
-LENGTH = 0x8000
-FLASH = model.noise(LENGTH)
 
 # Refused at the header, or at the payload: the reason, the opcode, and the payload's length or the payload.
 HEADERS = [(11, 0x07, 0), (11, 0x00, 4), (11, 0xFF, 65535), (12, model.ERASE, 7), (12, model.VERSION, 1), (12, model.WRITE, 4),
@@ -20,50 +17,9 @@ PAYLOADS = [
     (15, model.READ_QSPI, model.range_payload(0, 0)),
     (15, model.ERASE, model.erase_payload(0, 0)),
     (15, model.COPY, model.copy_payload(RAM, 0, 0)),
-    (16, model.WRITE, model.store_payload(RAM - 1, b'data')),
-    (16, model.WRITE, model.store_payload(0xFFFFFFFF, b'd')),
-    (16, model.READ, model.range_payload(RAM + model.RAM_MOST, 1)),
-    (16, model.COPY, model.copy_payload(RAM, 1, LENGTH)),
-    (16, model.COPY, model.copy_payload(0, 1, 0)),
-    (16, model.ERASE, model.erase_payload(LENGTH, 1)),
-    (16, model.ERASE, model.erase_payload(0xFFFFFFFF, 1)),
-    (16, model.RUN, struct.pack('<I', 0)),
-    (16, model.READ_QSPI, model.range_payload(LENGTH, 1)),
-    (16, model.DIRECT_WRITE, model.store_payload(0xFFFFFFFF, b'd', 1)),
     (17, model.READ, model.range_payload(RAM, 101)),
     (17, model.READ_QSPI, model.range_payload(0, 101)),
 ]
-
-# A piece of what is said of each.
-WORDS = {11: 'unknown opcode', 12: 'length', 13: 'work buffer', 14: 'verify', 15: 'is 0', 16: 'not in its memory',
-         17: 'answer longer', 18: 'differs', 19: 'CRC', 20: 'not acknowledged', 31: '01', 32: 'length 0', 33: 'RAM',
-         34: 'not acknowledged'}
-
-
-class ReasonCase(bench.Case):
-    json = True
-
-    def setUp(self):
-        super().setUp()
-        self.flash = self.file('flash.bin', FLASH)
-        self.player = Player(self, 'uartboot', '--flash', self.flash, '--work', '100', json=self.json)
-        self.line = self.player.open()
-        self.host = Host(self.line, model.Memories(FLASH))
-        self.told = 0
-
-    def refused_with(self, reason, came):
-        """What comes next, with a greeting after it; then the reason in the log."""
-        self.line.expect(came + model.GREETING)
-        self.told += 1
-        events = bench.wait_until(lambda: len(self.reasons()) >= self.told and self.reasons(), f'reason {reason} is told')
-        self.assertEqual(len(events), self.told)
-        self.assertEqual(events[-1]['reason'], reason)
-        self.assertIn(WORDS[reason], events[-1]['cause'])
-        self.assertIn(f'reason {reason}: {events[-1]["cause"]}', events[-1]['words'])
-        self.assertRegex(events[-1]['next'], r'[a-z]+ [a-z]+')
-
-    def reasons(self):
-        return [event for event in self.player.events() if 'reason' in event]
 
 
 class Reasons(ReasonCase):

@@ -139,7 +139,7 @@ static int play_session(monitor *m, uint32_t kind, incoming *in)
 {
     story told;
     int code = DONE;
-    story_begin(&told, &m->log);
+    story_begin(&told, &m->log, &m->session);
     session_fresh(&m->session, kind);
     while (code == DONE && !signals_pending() && !monitor_runs(m)) {
         if (in->at == in->end && !phase_of(m->session.record).sends)

@@ -1,7 +1,7 @@
 #include "story.h"
 
 #include "memory.h"
-#include "words.h"
+#include "range.h"
 
 #include <stdlib.h>
 #include <string.h>
@@ -26,20 +26,14 @@ static const char *const part_names[] = {
     [RUNNING] = "running",
 };
 
-void story_begin(story *s, event_log *log)
+void story_begin(story *s, event_log *log, const session *of)
 {
-    *s = (story){.log = log, .bytes = memory_of(MOST_BYTES)};
+    *s = (story){.log = log, .of = of, .bytes = memory_of(MOST_BYTES)};
 }
 
 static bool is_uartboot(const uint32_t *record)
 {
     return record[UND_RECORD_KIND] == UND_KIND_UARTBOOT;
-}
-
-static void add_reason(text *t, const char *before, uint32_t reason)
-{
-    const meaning *m = meaning_of(reason);
-    text_add(t, "%srefused, reason %u: %s (next: %s)", before, reason, m->what, m->next);
 }
 
 static void add_header(text *t, const uint32_t *after)
@@ -113,18 +107,18 @@ static void add_accepted(text *t, const story *s, const uint32_t *after)
     case ANSWER: text_add(t, "answer to %s", opcode_name(s->first[UND_RECORD_OPCODE])); break;
     case ANSWER_CRC: text_add(t, "CRC-16 of the answer: right"); break;
     case ANSWER_END: text_add(t, "answer accepted: %s is done", opcode_name(s->first[UND_RECORD_OPCODE])); break;
-    case REFUSAL: text_add(t, "refusal: %s", meaning_of(s->first[UND_RECORD_REASON])->what); break;
+    case REFUSAL: text_add(t, "refusal: %s", s->refused.what); break;
     case RUNNING: break;
     }
 }
 
-static void tell(story *s, const char *name, uint32_t reason, const text *words)
+static void tell(story *s, event e, const text *words)
 {
-    sender from = phase_of(s->first).sends ? FROM_CHIP : FROM_HOST;
-    log_event(
-        s->log,
-        &(event){
-            .from = from, .name = name, .bytes = s->bytes, .count = s->count, .reason = reason, .words = words->chars});
+    e.from = phase_of(s->first).sends ? FROM_CHIP : FROM_HOST;
+    e.bytes = s->bytes;
+    e.count = s->count;
+    e.words = words->chars;
+    log_event(s->log, &e);
     s->count = 0;
 }
 
@@ -135,20 +129,44 @@ static const char *reason_prefix(part told, uint8_t last)
     return told == PAYLOAD ? "; " : told == HEADER ? "header " : "";
 }
 
+/* The words for a reason; those against a range are made from the payload that was refused. */
+static void find_words(story *s, uint32_t reason, text *fields)
+{
+    refused_command c = {reason,   s->first[UND_RECORD_OPCODE], s->bytes,
+                         s->count, s->of->ram.length,           s->of->flash.length};
+    text_free(&s->what);
+    text_free(&s->next);
+    s->refused = *meaning_of(reason);
+    if (phase_of(s->first).part != PAYLOAD || !is_of_range(reason))
+        return;
+    add_range(&c, &s->what, &s->next, fields);
+    s->refused = (meaning){reason, s->what.chars, s->next.chars};
+}
+
+static void tell_refused(story *s, uint32_t reason)
+{
+    text t = {0}, fields = {0};
+    part told = phase_of(s->first).part;
+    const meaning *m = &s->refused;
+    find_words(s, reason, &fields);
+    if (told == PAYLOAD)
+        add_told_payload(&t, s);
+    text_add(&t, "%srefused, reason %u: %s (next: %s)", reason_prefix(told, s->bytes[s->count - 1]), reason, m->what,
+             m->next);
+    tell(s, (event){.name = part_names[told], .refused = m, .fields = fields.length ? &fields : NULL}, &t);
+    text_free(&t);
+    text_free(&fields);
+}
+
 static void tell_part(story *s, const uint32_t *after)
 {
     text t = {0};
-    uint32_t reason = 0;
-    part told = phase_of(s->first).part;
-    if (!is_refused(s, after)) {
-        add_accepted(&t, s, after);
-    } else {
-        reason = after[UND_RECORD_REASON];
-        if (told == PAYLOAD)
-            add_told_payload(&t, s);
-        add_reason(&t, reason_prefix(told, s->bytes[s->count - 1]), reason);
+    if (is_refused(s, after)) {
+        tell_refused(s, after[UND_RECORD_REASON]);
+        return;
     }
-    tell(s, part_names[told], reason, &t);
+    add_accepted(&t, s, after);
+    tell(s, (event){.name = part_names[phase_of(s->first).part]}, &t);
     text_free(&t);
 }
 
@@ -158,7 +176,7 @@ void story_rest(story *s)
         return;
     text t = {0};
     text_add(&t, "dropped: no command begins so");
-    tell(s, "dropped", 0, &t);
+    tell(s, (event){.name = "dropped"}, &t);
     text_free(&t);
 }
 
@@ -186,9 +204,11 @@ void story_end(story *s)
         text t = {0};
         text_add(&t, "%s, cut short after ", part_names[phase_of(s->first).part]);
         add_count(&t, s->count);
-        tell(s, "cut-short", 0, &t);
+        tell(s, (event){.name = "cut-short"}, &t);
         text_free(&t);
     }
+    text_free(&s->what);
+    text_free(&s->next);
     free(s->bytes);
     s->bytes = NULL;
 }

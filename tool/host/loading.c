@@ -67,7 +67,7 @@ int load_frame(loading *l)
     l->pace.baud = l->line.baud;
     heard_begin(&l->heard, line_settles(&l->line));
     session_fresh(&twin, l->kind);
-    story_begin(&told, &l->log);
+    story_begin(&told, &l->log, &twin);
     while (code == DONE && phase_of(twin.record).part != RUNNING)
         code = follow(l, &twin, &told);
     story_end(&told);

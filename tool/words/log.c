@@ -3,7 +3,6 @@
 #include "files.h"
 #include "say.h"
 #include "signals.h"
-#include "words.h"
 
 #include <errno.h>
 #include <fcntl.h>
@@ -76,9 +75,9 @@ static void add_for_machines(text *t, const event *e)
         text_add_hex(t, e->bytes, e->count, "");
         text_add(t, "\"");
     }
-    if (e->reason != 0) {
-        const meaning *m = meaning_of(e->reason);
-        text_add(t, ",\"reason\":%u,\"cause\":", e->reason);
+    if (e->refused) {
+        const meaning *m = e->refused;
+        text_add(t, ",\"reason\":%u,\"cause\":", m->number);
         text_add_json(t, m->what, strlen(m->what));
         text_add(t, ",\"next\":");
         text_add_json(t, m->next, strlen(m->next));

@@ -17,7 +17,9 @@ static const meaning numbers[] = {
     {UND_LONG_PAYLOAD, "payload longer than the work buffer", "send smaller pieces, or play with a larger --work"},
     {UND_BAD_VERIFY, "verify byte neither 0 nor 1", "send 0 (do not compare) or 1 (compare)"},
     {UND_EMPTY_RANGE, "count or size is 0", "ask for at least one byte"},
-    {UND_OUTSIDE_MEMORY, "range not in its memory", "check address and length against the size of RAM or flash"},
+    {UND_OUTSIDE_MEMORY, "a range starts outside its memory", "check its address or offset: it may be mistyped"},
+    {UND_PAST_END, "a range starts in its memory and ends outside",
+     "send or ask for less: the file or the count may be too long, or the memory is shorter than meant"},
     {UND_LONG_ANSWER, "answer longer than the work buffer", "ask for fewer bytes, or play with a larger --work"},
     {UND_VERIFY_DIFFERS, "flash differs from the data",
      "erase the sectors first: a store can only clear bits; what was stored stays"},
@@ -64,7 +66,7 @@ static const meaning rules[] = {
 typedef struct {
     uint32_t opcode;
     const char *name;
-    const char *payload; /* @n is the count of bytes, @a the RAM address, @o the flash offset, @v the verify byte */
+    const char *payload; /* with @ and a letter for each number: see payload_number */
 } command_words;
 
 static const command_words commands[] = {
@@ -124,6 +126,12 @@ const char *opcode_name(uint32_t opcode)
     return find_command(opcode)->name;
 }
 
+bool payload_has(uint32_t opcode, payload_number number)
+{
+    const char sign[] = {'@', (char)number, '\0'};
+    return strstr(find_command(opcode)->payload, sign) != NULL;
+}
+
 void add_count(text *t, size_t count)
 {
     text_add(t, count == 1 ? "1 byte" : "%zu bytes", count);
@@ -133,10 +141,10 @@ void add_count(text *t, size_t count)
 static void add_number(text *t, char letter, const und_command *c)
 {
     switch (letter) {
-    case 'n': add_count(t, c->count); break;
-    case 'a': text_add(t, "0x%08X", c->address); break;
-    case 'o': text_add(t, "0x%05X", c->offset); break;
-    case 'v': text_add(t, "%u", c->verify); break;
+    case COUNT: add_count(t, c->count); break;
+    case ADDRESS: text_add(t, "0x%08X", c->address); break;
+    case OFFSET: text_add(t, "0x%05X", c->offset); break;
+    case VERIFY: text_add(t, "%u", c->verify); break;
     }
 }
 

@@ -4,6 +4,7 @@
 
 #include "text.h"
 
+#include <stdbool.h>
 #include <stdint.h>
 
 typedef struct {
@@ -23,6 +24,12 @@ const meaning *rule_meaning(uint32_t rule);
 
 /* A command's name. */
 const char *opcode_name(uint32_t opcode);
+
+/* The numbers that a payload may have. */
+typedef enum { COUNT = 'n', ADDRESS = 'a', OFFSET = 'o', VERIFY = 'v' } payload_number;
+
+/* Whether a command's payload has this number. */
+bool payload_has(uint32_t opcode, payload_number number);
 
 /* "1 byte", "2 bytes" */
 void add_count(text *t, size_t count);
