@@ -46,7 +46,7 @@ int plain_has_answer(uint32_t opcode)
 static uint32_t judge_range(size_t start, size_t count, size_t base, size_t length)
 {
     if (start < base || start - base >= length)
-        return count ? 16 : 0;
+        return 16;
     return count > length - (start - base) ? 21 : 0;
 }
 

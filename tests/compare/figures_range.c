@@ -5,7 +5,7 @@
 
 #include <string.h>
 
-enum { RAM_LENGTH = 16, LONGEST_COUNT = 65535 - 5 };
+enum { RAM_LENGTH = 16, LONGEST_COUNT = 65535 - 5, TAKES_A_COMMAND = 1, TAKES_THE_ACK = 10 };
 
 typedef struct {
     uint32_t first, count, reason;
@@ -13,7 +13,7 @@ typedef struct {
 
 /* clang-format off */
 static const edge in_ram[] = {
-    {RAM_BASE - 1, 1, 16}, {RAM_BASE - 1, 2, 16}, {RAM_BASE - 1, 17, 16},
+    {RAM_BASE - 1, 1, 16}, {RAM_BASE - 1, 2, 16}, {RAM_BASE - 1, 17, 16}, {RAM_BASE - 1, 18, 16},
     {RAM_BASE, 1, 0}, {RAM_BASE, 16, 0}, {RAM_BASE, 17, 21}, {RAM_BASE, LONGEST_COUNT, 21},
     {RAM_BASE + 14, 2, 0}, {RAM_BASE + 15, 1, 0}, {RAM_BASE + 15, 2, 21},
     {RAM_BASE + 16, 1, 16}, {RAM_BASE + 16, 2, 16}, {RAM_BASE + 17, 1, 16},
@@ -56,14 +56,15 @@ static void show(trial *t, desk *d, const planned *p)
     desk_call(t, d, host, 4 + p->length, 64, &reply);
 }
 
-/* A payload that is good, as long as this one, is accepted; then the caller writes this one over it. */
+/* A payload that is good, as long as this one, is accepted; then the caller writes this one over it. Data that are
+   longer than their memory have no good payload. */
 static void at_execution(trial *t, const planned *p, uint32_t count, uint32_t reason)
 {
-    planned good = command_of(p->opcode, RAM_BASE, 0, takes_data(p->opcode) ? count : 1);
     const uint8_t *reply;
     desk d;
     if (takes_data(p->opcode) && count > (p->opcode == OP_WRITE ? RAM_LENGTH : SECTOR))
         return;
+    planned good = command_of(p->opcode, RAM_BASE, 0, takes_data(p->opcode) ? count : 1);
     show(t, &d, &good);
     memcpy(d.library.work, p->payload, p->length);
     memcpy(d.model.work, p->payload, p->length);
@@ -77,7 +78,7 @@ static void range_figure(trial *t, uint8_t opcode, uint32_t address, uint32_t of
     planned p = command_of(opcode, address, offset, count);
     desk d;
     show(t, &d, &p);
-    if (d.record[WORD_PHASE] != (reason ? 1 : 10) || d.record[WORD_REASON] != reason)
+    if (d.record[WORD_PHASE] != (reason ? TAKES_A_COMMAND : TAKES_THE_ACK) || d.record[WORD_REASON] != reason)
         differ(t, "figure: opcode %02X at %08X, %08X, count %u gets another reason than %u", opcode, address, offset,
                count, reason);
     at_execution(t, &p, count, reason);

@@ -17,8 +17,9 @@ static const exchange causes[] = {
     {UARTBOOT, BYTES("\x01\x01\x04\x00"), HEADER_REFUSED, 12},
     {UARTBOOT, BYTES("\x01\x01\x41\x00"), HEADER_REFUSED, 13},
     {UARTBOOT, BYTES("\x01\x12\x41\x00"), HEADER_REFUSED, 13},
-    /* 14 before 16, 15 before 16, 16 and 21 before 17 */
+    /* 14 before 16 and 21, 15 before 16, 16 and 21 before 17 */
     {UARTBOOT, BYTES("\x01\x12\x06\x00" "\x02" "\xFF\xFF\xFF\xFF" "\x00"), PAYLOAD_REFUSED, 14},
+    {UARTBOOT, BYTES("\x01\x12\x07\x00" "\x02" "\xFF\x0F\x00\x00" "\x00\x00"), PAYLOAD_REFUSED, 14},
     {UARTBOOT, BYTES("\x01\x02\x06\x00" "\x00\x00\x00\x00" "\x00\x00"), PAYLOAD_REFUSED, 15},
     {UARTBOOT, BYTES("\x01\x03\x0A\x00" "\x00\x00\xFC\x07" "\x00\x00" "\x00\x10\x00\x00"), PAYLOAD_REFUSED, 15},
     {UARTBOOT, BYTES("\x01\x04\x08\x00" "\x00\x10\x00\x00" "\x00\x00\x00\x00"), PAYLOAD_REFUSED, 15},

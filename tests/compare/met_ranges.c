@@ -42,6 +42,8 @@ void meet_ranges(meeting *met, const desk *d)
     int64_t count = opcode == OP_RUN ? 1 : (int64_t)said.count;
     range ram = {(int64_t)said.address - RAM_BASE, count, (int64_t)m->ram_length, RAM_BASE};
     range flash = {said.offset, count, (int64_t)m->flash_length, 0};
+    if (count == 0)
+        return;
     bool in_ram = opcode == OP_WRITE || opcode == OP_READ || opcode == OP_COPY || opcode == OP_RUN;
     if (in_ram)
         meet_range(met, SEEN_RAM_FIRST, opcode, ram);
@@ -51,7 +53,7 @@ void meet_ranges(meeting *met, const desk *d)
         meet_range(met, SEEN_FLASH_FIRST, opcode, flash);
     if (!in_ram && begins_inside(flash) && wraps(flash))
         note(met, SEEN_FLASH_INSIDE_WRAPS, opcode);
-    if (opcode == OP_COPY && count)
+    if (opcode == OP_COPY)
         note(met, SEEN_COPY_RANGES, LIES * lies(ram) + lies(flash));
     if (model_has_answer(opcode) && count == (int64_t)m->work_length)
         note(met, SEEN_ANSWER_FILLS, opcode);

@@ -39,3 +39,11 @@ class ReasonCase(bench.Case):
 
     def reasons(self):
         return [event for event in self.player.events() if 'reason' in event]
+
+
+class GoesOn(ReasonCase):
+    def tearDown(self):
+        """The session goes on, and has changed nothing else."""
+        self.host.version()
+        self.assertEqual(self.content(self.flash), self.host.memories.flash)
+        self.player.end()

@@ -3,7 +3,7 @@ import bench
 import model
 from host import ACK, NAK, crc, header
 from player import Player
-from reason_case import FLASH, LENGTH, WORDS, ReasonCase
+from reason_case import FLASH, LENGTH, WORDS, GoesOn, ReasonCase
 
 RAM = model.RAM_FIRST
 
@@ -22,13 +22,7 @@ PAYLOADS = [
 ]
 
 
-class Reasons(ReasonCase):
-    def tearDown(self):
-        """The session goes on, and has changed nothing else."""
-        self.host.version()
-        self.assertEqual(self.content(self.flash), self.host.memories.flash)
-        self.player.end()
-
+class Reasons(GoesOn):
     def test_headers(self):
         for reason, opcode, length in HEADERS:
             with self.subTest(reason=reason, opcode=opcode, length=length):
@@ -83,8 +77,14 @@ class ReasonsInText(ReasonCase):
         self.line.expect(ACK)
         self.line.write(model.range_payload(0, 1))
         self.line.expect(NAK + model.GREETING)
+        self.line.write(header(model.READ, 6))
+        self.line.expect(ACK)
+        self.line.write(model.range_payload(RAM + model.RAM_MOST - 1, 2))
+        self.line.expect(NAK + model.GREETING)
         self.player.end()
-        for pattern in ['host +01 07 00 00 .*refused, reason 11: unknown opcode .*next: ', 'chip +15 ', 'reason 16: .*next: ']:
+        for pattern in ['host +01 07 00 00 .*refused, reason 11: unknown opcode .*next: ', 'chip +15 ',
+                        'reason 16: .*next: check the address', 'reason 21: .*next: ask for 1 byte less',
+                        'chip +15 +refusal: the end is outside RAM: ']:
             self.assertRegex(self.player.text(), pattern)
 
 

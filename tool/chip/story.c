@@ -137,6 +137,7 @@ static void find_words(story *s, uint32_t reason, text *fields)
     text_free(&s->what);
     text_free(&s->next);
     s->refused = *meaning_of(reason);
+    s->refused.number = reason;
     if (phase_of(s->first).part != PAYLOAD || !is_of_range(reason))
         return;
     add_range(&c, &s->what, &s->next, fields);

@@ -16,7 +16,7 @@ typedef struct {
     const char *name; /* one word, for machines */
     const uint8_t *bytes;
     size_t count;
-    const meaning *refused; /* what was refused, else NULL */
+    const meaning *refused; /* why it was refused, else NULL */
     const char *words;
     const char *path;   /* of a file or a line that the event is about, else NULL */
     const text *more;   /* what people read after the words, else NULL */

@@ -4,16 +4,17 @@
 #include "words.h"
 
 typedef struct {
-    const char *name, *unit;
-    int digits; /* of a number of this unit */
-    uint64_t base, length, most;
+    const char *name, *unit; /* what it is called, and what a place in it is called */
+    int digits;              /* of such a place */
+    int64_t base, length;
+    int64_t grain, most;        /* lengths that it may have: multiples of the grain, up to the most */
+    const char *longer, *bytes; /* what to give a longer one by: a number stands between them */
 } memory;
 
-/* It counts from the memory's first byte on. */
+/* `first` counts from the memory's first byte on. */
 typedef struct {
     const memory *in;
-    int64_t first;
-    uint64_t count;
+    int64_t first, count;
 } range;
 
 bool is_of_range(uint32_t reason)
@@ -21,64 +22,66 @@ bool is_of_range(uint32_t reason)
     return reason == UND_OUTSIDE_MEMORY || reason == UND_PAST_END;
 }
 
-static uint64_t end_of(range r)
-{
-    return (uint64_t)r.first + r.count;
-}
-
 static bool is_wrong(range r)
 {
-    return r.first < 0 || (uint64_t)r.first >= r.in->length || end_of(r) > r.in->length;
+    return r.first < 0 || r.first >= r.in->length || r.first + r.count > r.in->length;
 }
 
-/* How many bytes its start or its end is off. */
-static uint64_t bytes_off(range r, bool start)
+/* How many bytes its start or its end is after the memory's last byte; below 0, how many before the first. */
+static int64_t bytes_off(range r, bool start)
 {
     if (r.first < 0)
-        return (uint64_t)-r.first;
-    return (start ? (uint64_t)r.first + 1 : end_of(r)) - r.in->length;
+        return r.first;
+    return r.first + (start ? 1 : r.count) - r.in->length;
 }
 
 static void add_place(text *t, range r, int64_t place)
 {
-    text_add(t, "0x%0*llX", r.in->digits, (unsigned long long)((int64_t)r.in->base + place));
+    text_add(t, "0x%0*llX", r.in->digits, (unsigned long long)(r.in->base + place));
 }
 
 static void add_what(text *t, range r, bool start)
 {
+    int64_t off = bytes_off(r, start);
     text_add(t, "the %s is outside %s: ", start ? "start" : "end", r.in->name);
     if (!start) {
-        add_count(t, r.count);
+        add_count(t, (size_t)r.count);
         text_add(t, " from ");
     }
     text_add(t, "%s ", r.in->unit);
     add_place(t, r, r.first);
-    text_add(t, start ? " is " : " on end ");
-    add_count(t, bytes_off(r, start));
-    text_add(t, r.first < 0 ? " before its first byte, " : " after its last byte, ");
-    add_place(t, r, r.first < 0 ? 0 : (int64_t)r.in->length - 1);
+    text_add(t, start ? " is " : " on reach ");
+    add_count(t, (size_t)(off < 0 ? -off : off));
+    text_add(t, " %s %s's %s byte, ",
+             off < 0 ? "before"
+             : start ? "after"
+                     : "past",
+             r.in->name, off < 0 ? "first" : "last");
+    add_place(t, r, off < 0 ? 0 : r.in->length - 1);
 }
 
 /* The memory is perhaps shorter than meant: what would hold the range. */
 static void add_longer(text *t, range r)
 {
-    bool ram = r.in->base == UND_RAM_FIRST;
-    uint64_t unit = ram ? 1 : UND_FLASH_SECTOR, needs = (end_of(r) + unit - 1) / unit * unit;
-    if (r.first < 0 || needs > r.in->most)
-        return;
-    text_add(t, "; or %s is shorter than meant: ", r.in->name);
-    text_add(t, ram ? "--ram %llu" : "a --flash file of %llu bytes", (unsigned long long)needs);
-    text_add(t, " would hold it");
+    const memory *m = r.in;
+    int64_t needs = (r.first + r.count + m->grain - 1) / m->grain * m->grain;
+    if (r.first >= 0 && needs <= m->most)
+        text_add(t, "; or %s is shorter than meant: %s%lld%s would hold it", m->name, m->longer, (long long)needs,
+                 m->bytes);
 }
 
-static void add_next(text *t, range r, bool start)
+/* What to look at. A file that is sent or copied in pieces may begin a piece after the end. */
+static void add_next(text *t, range r, bool start, uint32_t opcode)
 {
+    bool sends = opcode == UND_OP_WRITE || opcode == UND_OP_DIRECT_WRITE, stores = sends || opcode == UND_OP_COPY;
+    const char *too_long = sends ? "file" : stores ? "file or the count" : "count";
     if (start) {
         text_add(t, "check the %s: it may be mistyped", r.in->unit);
+        text_add(t, stores && r.first >= 0 ? ", or the file is too long" : "");
     } else {
-        text_add(t, "send or ask for ");
-        add_count(t, bytes_off(r, start));
-        text_add(t, " less: the file or the count may be too long");
+        text_add(t, sends ? "send " : "ask for ");
+        add_count(t, (size_t)bytes_off(r, start));
+        text_add(t, " less: the %s may be too long, or the %s mistyped", too_long, r.in->unit);
     }
     add_longer(t, r);
 }
@@ -87,18 +90,20 @@ static void add_next(text *t, range r, bool start)
 static range wrong_range(const refused_command *c, const memory *ram, const memory *flash)
 {
     und_command said = und_read_command(c->opcode, c->payload, c->payload_length);
-    uint64_t count = payload_has(c->opcode, COUNT) ? said.count : 1;
+    int64_t count = payload_has(c->opcode, COUNT) ? said.count : 1;
     range in_ram = {ram, (int64_t)said.address - UND_RAM_FIRST, count}, in_flash = {flash, said.offset, count};
     return payload_has(c->opcode, ADDRESS) && is_wrong(in_ram) ? in_ram : in_flash;
 }
 
 void add_range(const refused_command *c, text *what, text *next, text *fields)
 {
-    const memory ram = {"RAM", "address", 8, UND_RAM_FIRST, c->ram_length, UND_RAM_MAX};
-    const memory flash = {"flash", "offset", 5, 0, c->flash_length, UND_FLASH_MAX};
+    const memory ram = {"RAM", "address", 8, UND_RAM_FIRST, (int64_t)c->ram_length, 1, UND_RAM_MAX, "--ram ", ""};
+    const memory flash = {
+        "flash", "offset", 5, 0, (int64_t)c->flash_length, UND_FLASH_SECTOR, UND_FLASH_MAX, "a --flash file of ",
+        " bytes"};
     range r = wrong_range(c, &ram, &flash);
     bool start = c->reason == UND_OUTSIDE_MEMORY;
     add_what(what, r, start);
-    add_next(next, r, start);
-    text_add(fields, ",\"memory\":\"%s\",\"off_by\":%llu", r.in->name, (unsigned long long)bytes_off(r, start));
+    add_next(next, r, start, c->opcode);
+    text_add(fields, ",\"memory\":\"%s\",\"off_by\":%lld", r.in->name, (long long)bytes_off(r, start));
 }

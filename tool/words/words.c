@@ -66,7 +66,7 @@ static const meaning rules[] = {
 typedef struct {
     uint32_t opcode;
     const char *name;
-    const char *payload; /* with @ and a letter for each number: see payload_number */
+    const char *payload; /* with @ and a letter for every number that it has: see payload_number */
 } command_words;
 
 static const command_words commands[] = {

@@ -53,10 +53,10 @@ checksOf Version = checks 0 1 firstAddress 0 firstOffset 0 (length version)
 checksOf ChipErase = checks 0 1 firstAddress 0 firstOffset 0 0
 checksOf (DirectWrite verify offset n) = checks verify n firstAddress 0 offset n 0
 
--- the reason against a range that is not wholly in its memory, by where its first byte lies: the start is wrong, or the end
+-- the reason against a range that is not wholly in its memory, by where its first byte lies: outside, or inside, so that the end is wrong
 abbrev pub wrongEnd : (first : Place) → ℕ
-wrongEnd (Inside place) = pastEnd
 wrongEnd Outside = outsideMemory
+wrongEnd (Inside place) = pastEnd
 
 -- the reason of the first test that fails, in memories of these lengths; 0 where none does
 unfoldable pub judged : (ram flash work : ℕ) → Checks → ℕ
