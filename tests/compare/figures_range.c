@@ -66,6 +66,8 @@ static void at_execution(trial *t, const planned *p, uint32_t count, uint32_t re
         return;
     planned good = command_of(p->opcode, RAM_BASE, 0, takes_data(p->opcode) ? count : 1);
     show(t, &d, &good);
+    if (d.record[WORD_PHASE] != TAKES_THE_ACK)
+        differ(t, "figure: opcode %02X with %u bytes from its memory's first byte on is refused", p->opcode, count);
     memcpy(d.library.work, p->payload, p->length);
     memcpy(d.model.work, p->payload, p->length);
     model_report got = desk_call(t, &d, (const uint8_t *)"\x06", 1, 64, &reply);

@@ -58,7 +58,7 @@ class Ranges(GoesOn):
                 self.assertEqual('may be too long' in told['next'], reason == 21)
                 self.assertIn('mistyped', told['next'])
                 self.assertEqual([piece for piece in LONGER.values() if piece in told['next']], [LONGER[memory]] if needs else [])
-                self.assertIn(f'{LONGER[memory]}{needs}' if needs else '', told['next'])
+                self.assertEqual(f'{LONGER[memory]}{needs} ' in told['next'], needs is not None)
 
     def test_sentences(self):
         for reason, opcode, payload, cause, then in [

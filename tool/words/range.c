@@ -97,10 +97,24 @@ static range wrong_range(const refused_command *c, const memory *ram, const memo
 
 void add_range(const refused_command *c, text *what, text *next, text *fields)
 {
-    const memory ram = {"RAM", "address", 8, UND_RAM_FIRST, (int64_t)c->ram_length, 1, UND_RAM_MAX, "--ram ", ""};
-    const memory flash = {
-        "flash", "offset", 5, 0, (int64_t)c->flash_length, UND_FLASH_SECTOR, UND_FLASH_MAX, "a --flash file of ",
-        " bytes"};
+    const memory ram = {.name = "RAM",
+                        .unit = "address",
+                        .digits = 8,
+                        .base = UND_RAM_FIRST,
+                        .length = (int64_t)c->ram_length,
+                        .grain = 1,
+                        .most = UND_RAM_MAX,
+                        .longer = "--ram ",
+                        .bytes = ""};
+    const memory flash = {.name = "flash",
+                          .unit = "offset",
+                          .digits = 5,
+                          .base = 0,
+                          .length = (int64_t)c->flash_length,
+                          .grain = UND_FLASH_SECTOR,
+                          .most = UND_FLASH_MAX,
+                          .longer = "a --flash file of ",
+                          .bytes = " bytes"};
     range r = wrong_range(c, &ram, &flash);
     bool start = c->reason == UND_OUTSIDE_MEMORY;
     add_what(what, r, start);
