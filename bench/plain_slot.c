@@ -20,6 +20,12 @@ static int valid_id(const uint8_t *flash, size_t flash_len, size_t offset)
     return plain.crc32(header + 64, size) == number32(header + 8) ? header[3] : -1;
 }
 
+/* 0 follows 255; an image that is not valid, -1, is newer than none. */
+static int is_newer(int id, int than)
+{
+    return id > than ? id != 255 || than != 0 : id == 0 && than == 255;
+}
+
 und_selected plain_select(const uint8_t *flash, size_t flash_len, uint32_t header_offset)
 {
     und_selected s = {0, 0};
@@ -36,6 +42,6 @@ und_selected plain_select(const uint8_t *flash, size_t flash_len, uint32_t heade
     if (first < 0 && second < 0)
         s.number = 53;
     else
-        s.slot = second > first ? 2 : 1;
+        s.slot = is_newer(second, first) ? 2 : 1;
     return s;
 }

@@ -132,7 +132,8 @@ typedef struct {
 } und_selected;
 
 /* The slot that will start, by the product header at an offset of the flash: that of the valid image; where both are
- * valid, that of the larger id; where the ids are equal, slot 1.
+ * valid, that of the newer id; where the ids are equal, slot 1. The larger id is the newer, but of 255 and 0 it is 0,
+ * which follows 255.
  *
  * Number:  0
  *          3   flash_len is not a length that flash may have
@@ -142,6 +143,12 @@ typedef struct {
  * Writes:  nothing that is lent
  */
 und_selected und_select(const uint8_t *flash, size_t flash_len, uint32_t header_offset);
+
+/* The id that follows an image's id, for the image after it: one more, and 0 after 255.
+ *
+ * Writes:  nothing; nothing is lent
+ */
+uint8_t und_next_id(uint8_t id);
 
 /* The files of an offer. */
 enum { UND_FILE_INSTALLED = 1, UND_FILE_CANDIDATE = 2 };

@@ -54,6 +54,11 @@ def valid_image(memory, offset):
     return ident, size
 
 
+def is_newer(ident, than):
+    """255 is followed by 0; all others go by size."""
+    return ident == 0 if {ident, than} == {0, 255} else ident > than
+
+
 def select(flash, header):
     if len(flash) == 0 or len(flash) % 4096 or len(flash) > 4194304:
         return 3, 0
@@ -69,7 +74,7 @@ def select(flash, header):
         return 0, 2
     if b is None:
         return 0, 1
-    return 0, 2 if b[0] > a[0] else 1
+    return 0, 2 if is_newer(b[0], a[0]) else 1
 
 
 def offer(installed, candidate):
@@ -150,7 +155,7 @@ def altered(one, place, byte):
 
 def slots():
     r = []
-    for a, b in (9, 10), (10, 9), (7, 7), (255, 0), (0, 255):
+    for a, b in (9, 10), (10, 9), (7, 7), (255, 0), (0, 255), (254, 0), (0, 254), (255, 1), (1, 255):
         r.append(row(image(A, a, 100), image(B, b, 200)))
     # only the first valid, only the second, neither: flag AB
     r.append(row(image(A, 9, 100), altered(image(B, 10, 200), 2, 0xAB)))

@@ -17,7 +17,8 @@ static int versions(void)
 
 static int images(void)
 {
-    return und_select(flash, sizeof flash, 0).number == 52 && und_offer(flash, 64, flash + 64, 64).number == 62;
+    return und_select(flash, sizeof flash, 0).number == 52 && und_offer(flash, 64, flash + 64, 64).number == 62 &&
+           und_next_id(255) == 0;
 }
 
 static int readings(void)

@@ -39,6 +39,7 @@ EDITS = {
         ("number after the bytes", "uint32_t opcode, const uint8_t *payload, size_t payload_len",
          "const uint8_t *payload, size_t payload_len, uint32_t opcode", "conflicting types for 'und_read_command'"),
         ("byte of 32 bits as parameter", "uint8_t id,", "uint32_t id,", "conflicting types for 'und_make_image_header'"),
+        ("byte of 32 bits as result", "uint8_t und_next_id(", "uint32_t und_next_id(", "conflicting types for 'und_next_id'"),
         ("time of 64 bits", "uint32_t time);", "uint64_t time);", "conflicting types for 'und_make_image_header'"),
         ("const dropped", "(const uint8_t *field", "(uint8_t *field", "conflicting types for 'und_rank'"),
         ("const added", "uint8_t *work, size_t", "const uint8_t *work, size_t", "conflicting types for 'und_uartboot_call'"),

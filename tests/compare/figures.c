@@ -33,28 +33,7 @@ static void version_figures(trial *t)
     order_figure(t, "1..2", "1.9", 61, 0);
 }
 
-/* Its code is 123456789, and its CRC-32 the one that is published for that. */
-static void image_with_id(uint8_t *bytes, uint8_t id)
-{
-    memcpy(bytes, (const uint8_t[]){0x70, 0x51, 0xAA, id, 9}, 5);
-    memcpy(bytes + IMAGE_HEADER, "123456789", 9);
-    put_little(bytes + 8, 4, 0xCBF43926);
-}
-
-static void slot_figure(trial *t, uint8_t first, uint8_t second, uint32_t slot)
-{
-    static uint8_t flash[SECTOR];
-    memset(flash, 0, sizeof flash);
-    memcpy(flash, (const uint8_t[]){0x70, 0x52, 0, 0, 0x00, 0x01, 0, 0, 0x00, 0x02, 0, 0}, PRODUCT_HEADER);
-    image_with_id(flash + 0x100, first);
-    image_with_id(flash + 0x200, second);
-    und_selected got = und_select(flash, sizeof flash, 0);
-    model_selected model = model_select(flash, sizeof flash, 0);
-    if (got.number != 0 || got.slot != slot || model.number != 0 || model.slot != slot)
-        differ(t, "figure: slot for ids %u and %u", first, second);
-}
-
-/* The headers for that code, id 9, version 1.10 and a time, and for two offsets, byte by byte. */
+/* The headers for the code 123456789, id 9, version 1.10 and a time, and for two offsets, byte by byte. */
 static void header_figures(trial *t)
 {
     static const uint8_t image[IMAGE_HEADER] = {
@@ -84,9 +63,7 @@ static void checksum_figures(trial *t)
 void run_figures(trial *t)
 {
     version_figures(t);
-    slot_figure(t, 9, 10, 2);
-    slot_figure(t, 10, 9, 1);
-    slot_figure(t, 7, 7, 1);
+    slot_figures(t);
     checksum_figures(t);
     header_figures(t);
     exchange_figures(t);

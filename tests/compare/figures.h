@@ -6,7 +6,8 @@
 
 void run_figures(trial *t);
 
-/* Those of sessions, a file for each. */
+/* Those of slots, and those of sessions, a file for each. */
+void slot_figures(trial *t);
 void exchange_figures(trial *t);
 void refusal_figures(trial *t);
 void altered_figures(trial *t);

@@ -30,6 +30,21 @@ bool model_flash_length(size_t length)
     return length != 0 && length % SECTOR == 0 && length <= MOST_FLASH;
 }
 
+/* 255 is followed by 0, so of these two 0 is the newer; all other ids go by size. */
+static bool is_newer(uint8_t id, uint8_t than)
+{
+    if (id == 0 && than == 255)
+        return true;
+    if (id == 255 && than == 0)
+        return false;
+    return id > than;
+}
+
+uint8_t model_next_id(uint8_t id)
+{
+    return id == 255 ? 0 : (uint8_t)(id + 1);
+}
+
 model_selected model_select(const uint8_t *flash, size_t length, uint32_t header)
 {
     if (!model_flash_length(length))
@@ -43,7 +58,7 @@ model_selected model_select(const uint8_t *flash, size_t length, uint32_t header
     image second = image_at(flash, length, little(product + 8, 4));
     if (!first.valid && !second.valid)
         return (model_selected){53, 0};
-    if (!first.valid || (second.valid && second.id > first.id))
+    if (!first.valid || (second.valid && is_newer(second.id, first.id)))
         return (model_selected){0, 2};
     return (model_selected){0, 1};
 }

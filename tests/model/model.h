@@ -36,6 +36,7 @@ typedef struct {
     size_t place, size;
 } model_offered;
 
+uint8_t model_next_id(uint8_t id);
 model_selected model_select(const uint8_t *flash, size_t length, uint32_t header);
 model_offered model_offer(const uint8_t *installed, size_t installed_length, const uint8_t *candidate,
                           size_t candidate_length);

@@ -5,9 +5,9 @@ ID, CHECK, HEADER = "crates/slot/specs/Id.antt", "crates/command/specs/Check.ant
 
 EDITS = [
     # Definitions, files and C functions that are cited.
-    ("definition that is not there", RULES, "[`isNewer`]", "[`isYounger`]", "Id.antt does not declare isYounger"),
-    ("definition renamed", ID, "abbrev pub isNewer :", "abbrev pub isYounger :", "Id.antt does not declare isNewer"),
-    ("file that is not there", RULES, "slot/specs/Id.antt", "slot/specs/Ids.antt", "there is no crates/slot/specs/Ids.antt"),
+    ("definition that is not there", RULES, "`isNewer`]", "`isYounger`]", "Id.antt does not declare isYounger"),
+    ("definition renamed", ID, "unfoldable pub isNewer :", "unfoldable pub isYounger :", "Id.antt does not declare isNewer"),
+    ("file that is not there", RULES, "slot/specs/Refusal.antt", "slot/specs/Refused.antt", "there is no crates/slot/specs/Refused.antt"),
     ("file taken away", "docs/PERFORMANCE.md", None, None, "there is no docs/PERFORMANCE.md"),
     ("path that is not there", "docs/DESIGN.md", "(`tests/model`,", "(`tests/models`,", "there is no tests/models"),
     ("crate that is not there", "CONTRIBUTING.md", "`rt check sessions`", "`rt check session`", "there is no crates/session"),

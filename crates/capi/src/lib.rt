@@ -3,6 +3,7 @@
 ghost use mathlib.Core.Path.{_≡_};
 ghost use Rattle.version.specs.Rank.{rankOf};
 ghost use Rattle.version.specs.Order.{orderOf};
+ghost use Rattle.slot.specs.Id.{nextId};
 ghost use Rattle.slot.specs.Slot.{selectOf};
 ghost use Rattle.offer.specs.Offer.{offerOf};
 use offer::Offered;
@@ -32,6 +33,14 @@ pub extern "C" fn und_select(flash: &[u8], offset: u32) -> Selected
     ensures { λ r. ⌜ r ≡ selectOf (now (flash .entry)) offset ⌝ }
 {
     slot::select(flash, offset)
+}
+
+// The image id that follows another.
+#[no_mangle]
+pub extern "C" fn und_next_id(id: u8) -> u8
+    ensures { λ r. ⌜ r ≡ nextId id ⌝ }
+{
+    slot::id::next_id(id)
 }
 
 // Which of two image files wins, and where its code lies there.

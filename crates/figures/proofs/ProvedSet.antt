@@ -15,6 +15,7 @@ use Rattle.version.specs.Rank.{rankOf}
 use Rattle.version.specs.Order.{comparedFields, orderOf}
 use Rattle.image.specs.Rule.{firstBroken}
 use Rattle.image.specs.Valid.{isValid, imageAt}
+use Rattle.slot.specs.Id.{isNewer}
 use Rattle.slot.specs.Product.{productInside, productMarked, productAt}
 use Rattle.slot.specs.Slot.{selectOf}
 use Rattle.headers.specs.ImageHeader.{imageHeaderOf}
@@ -23,5 +24,5 @@ use Rattle.rom_flow.specs.Flow.{xorOf}
 use Rattle.figures.specs.ProvedSet.{AllHold, provedSet}
 
 pub proved-set : AllHold provedSet
-unfolding numberAt liesIn isFlashLength firstBroken isValid imageAt productInside productMarked productAt selectOf imageHeaderOf erased judged executed opcodeOf leaving moved placed afterBit afterBits afterByte after crcOf isNumber wellFormed rankOf comparedFields orderOf drain feed uncut xorOf
-proved-set = (refl, (refl, (refl, (refl, (refl, (refl, (refl, (refl, (refl, (refl, (refl, (refl, (refl, (refl, (refl, (refl, tt))))))))))))))))
+unfolding numberAt liesIn isFlashLength firstBroken isValid imageAt productInside productMarked productAt isNewer selectOf imageHeaderOf erased judged executed opcodeOf leaving moved placed afterBit afterBits afterByte after crcOf isNumber wellFormed rankOf comparedFields orderOf drain feed uncut xorOf
+proved-set = (refl, (refl, (refl, (refl, (refl, (refl, (refl, (refl, (refl, (refl, (refl, (refl, (refl, (refl, (refl, (refl, (refl, (refl, tt))))))))))))))))))

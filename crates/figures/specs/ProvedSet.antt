@@ -95,6 +95,8 @@ provedSet =
     ∷ (selectOf (flashWith 9 10) 0 is record { number = 0; slot = 2 })
     ∷ (selectOf (flashWith 10 9) 0 is record { number = 0; slot = 1 })
     ∷ (selectOf (flashWith 7 7) 0 is record { number = 0; slot = 1 })
+    ∷ (selectOf (flashWith 255 0) 0 is record { number = 0; slot = 2 })
+    ∷ (selectOf (flashWith 0 255) 0 is record { number = 0; slot = 1 })
     ∷ (uncut receiver (fresh E wholeRam) (0x01 ∷ 0x00 ∷ 0x00 ∷ 0x00 ∷ 0x00 ∷ []) .final .step is TakeCode 65536 0)
     ∷ (uncut receiver (fresh E wholeRam) (0x01 ∷ 0x00 ∷ 0x00 ∷ 0x01 ∷ 0x00 ∷ []) .final .step is TakeCode 65537 0)
     ∷ (definition romP (replicate 4 0) (0x01 ∷ 0x03 ∷ 0x00 ∷ 0x11 ∷ 0x22 ∷ 0x44 ∷ 0x06 ∷ []) is record {

@@ -15,6 +15,7 @@ use Rattle.crc.specs.Crc.{crcOf}
 use Rattle.image.specs.Rule.{firstBroken}
 use Rattle.image.specs.Valid.{isValid, imageAt}
 use Rattle.slot.specs.declared.Selected.{Selected}
+use Rattle.slot.specs.Id.{isNewer}
 use Rattle.slot.specs.Product.{productInside, productMarked, productAt}
 use Rattle.slot.specs.Slot.{starts, selectOf}
 use Rattle.slot.specs.Fakes.{Routine, Keeps, StuckOn, NobodyIsStuck}
@@ -30,7 +31,7 @@ flashWith id id′ =
     ∷ imageWith id ++ imageWith id′ ++ replicate 3954 0xFF
 
 both-start : (selectOf (flashWith 10 9) 0 ≡ starts 1) × (selectOf (flashWith 9 10) 0 ≡ starts 2)
-unfolding numberAt liesIn isFlashLength leaving moved placed afterBit afterBits afterByte after crcOf firstBroken isValid imageAt productInside productMarked productAt selectOf
+unfolding numberAt liesIn isFlashLength leaving moved placed afterBit afterBits afterByte after crcOf firstBroken isValid imageAt productInside productMarked productAt isNewer selectOf
 both-start = (refl, refl)
 
 module _ (f : Routine) (slot : ℕ) (keeps : Keeps f) (stuck : StuckOn slot f) where

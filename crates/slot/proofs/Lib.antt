@@ -1,2 +1,3 @@
+pub mod Ids
 pub mod Fakes
 pub mod Refusal

@@ -1,8 +1,19 @@
--- Which of two image ids is the newer (rules, 10.3): the larger one.
+-- Image ids (rules, 10.3): the one that follows another, and which of two is the newer.
 -- Assumes nothing.
-use Prim.Native.Nat.{ℕ}
-use mathlib.Core.Bool.{Bool}
-use lib.Dec.{ltb}
+use Prim.Native.Nat.{ℕ, _+_, _%_}
+use mathlib.Core.Bool.{Bool, true, false, cond}
+use lib.Dec.{eqb, ltb}
 
-abbrev pub isNewer : (id than : ℕ) → Bool
-isNewer id than = ltb than id
+-- an id is a byte, and 255 is followed by 0
+abbrev pub nextId : (id : ℕ) → ℕ
+nextId id = (id + 1) % 256
+
+abbrev pub follows : (id other : ℕ) → Bool
+follows id other = eqb id (nextId other)
+
+-- an id is newer than the one that it follows and not newer than the one that follows it; of all others the larger is the newer
+unfoldable pub isNewer : (id than : ℕ) → Bool
+isNewer id than =
+    cond (follows id than) true
+    (cond (follows than id) false
+    (ltb than id))

@@ -1,4 +1,5 @@
 pub mod Id
+pub mod IdLaws
 pub mod Product
 pub mod Slot
 pub mod Refusal

@@ -1,10 +1,12 @@
 // The flash slot that will start: the product header names two images, and the newer valid one starts.
+pub mod id;
 pub mod product;
 
 ghost use mathlib.Core.Path.{_≡_};
 ghost use mathlib.Core.Bool.{cond};
 ghost use Rattle.slot.specs.Id.{isNewer};
 ghost use Rattle.slot.specs.Slot.{refused, starts, chosen, selectOf};
+use crate::id::is_newer;
 use crate::product::Product;
 use crate::product::product_at;
 use image::Image;
@@ -36,13 +38,6 @@ fn starts(slot: u32) -> Selected
         number: 0,
         slot: slot,
     }
-}
-
-// Whether an image id is newer than another.
-fn is_newer(id: u8, than: u8) -> bool
-    ensures { λ r. ⌜ r ≡ isNewer id than ⌝ }
-{
-    than < id
 }
 
 // The slot of the newer id, or slot 1.

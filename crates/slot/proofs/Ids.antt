@@ -1,0 +1,26 @@
+-- The order of ids, by which of the two follows the other.
+-- Assumes nothing.
+use Prim.Native.Nat.{ℕ, _+_, _<_}
+use native.Mathlib.Omega.{arith}
+use mathlib.Core.Path.{_≡_, refl, sym}
+use mathlib.Core.Bool.{true}
+use borrow.Author.Tests.{eqb-true, lt-ltb, le-ltb}
+use borrow.Table.Steps.{cases}
+use Rattle.wire.specs.Bytes.{Byte}
+use Rattle.slot.specs.Id.{nextId, follows, isNewer}
+use Rattle.slot.specs.IdLaws.{ZeroAfter255, OthersBySize}
+
+pub zero-after-255 : ZeroAfter255
+unfolding isNewer
+zero-after-255 = (refl, refl)
+
+-- an id that follows one that is less than 255 above it is the larger
+larger : (id other : ℕ) → Byte other → other < id + 255 → follows id other ≡ true → other < id
+larger id other b near t = omega (arith, eqb-true id (nextId other) t)
+
+pub others-by-size : OthersBySize
+unfolding isNewer
+others-by-size id than b b′ near near′ =
+    cases (follows id than)
+    (λ t. rw (t, lt-ltb than id (larger id than b′ near′ t)))
+    (λ f. rw f (cases (follows than id) (λ t. let e = larger than id b near t in rw (t, le-ltb than id (omega (arith, e)))) (λ f′. rw f′)))
