@@ -74,6 +74,15 @@ def broken_rule(memory, offset):
     return 0 if all(checks) else 2 + checks.index(False)
 
 
+def is_newer(ident, than):
+    """Of 255 and 0, 0 is the newer, of all others the larger; -1 stands for no valid image."""
+    return (ident, than) == (0, 255) or (ident > than and (ident, than) != (255, 0))
+
+
+def next_id(ident):
+    return 0 if ident == 255 else ident + 1
+
+
 def select(content, header=USUAL_HEADER):
     """The number and the slot."""
     if len(content) == 0 or len(content) % SECTOR or len(content) > FLASH_MOST:
@@ -86,7 +95,7 @@ def select(content, header=USUAL_HEADER):
     ids = [content[at + 3] if broken_rule(content, at) == 0 else -1 for at in offsets]
     if max(ids) < 0:
         return 53, 0
-    return 0, 1 if ids[0] >= ids[1] else 2
+    return 0, 2 if is_newer(ids[1], ids[0]) else 1
 
 
 def rank(field):

@@ -25,6 +25,8 @@ class SlotCase(bench.Case):
         else:
             self.assertIn(f'slot {slot} will start', self.tool('slot', path, *words).stdout)
         answer, = self.json('slot', path, *words, code=1 if number else 0)
+        self.assertEqual('next_id' in answer, number == 0)
+        self.assertEqual('why' in answer, number == 0)
         if number != 3:
             self.assertEqual((answer['number'], answer['slot'], answer['bytes']), (number, slot, len(content)))
             self.assertEqual((answer['flash'], answer['header']), (path, header))
@@ -38,6 +40,7 @@ class Slot(SlotCase):
                 answer = self.check(flash_with(good(first), good(second)))
                 self.assertEqual(answer['slot'], 2 if second > first else 1)
                 self.assertEqual([each['id'] for each in answer['images']], [first, second])
+                self.assertNotIn('begin again', answer['why'])
 
     def test_says_what_it_shows(self):
         path = self.file('flash.bin', flash_with(good(9, 3000, b'1.9'), good(10, 4000, b'1.10')))
@@ -67,6 +70,66 @@ class Slot(SlotCase):
             with self.subTest(name=name):
                 self.file(name, content)
                 self.assertEqual(self.json('slot', '--', name)[0]['flash'], name)
+
+
+class NewRound(SlotCase):
+    """After 255 the ids begin again at 0."""
+    WHY = 'both images are valid, and id 0 is newer than id 255: after 255 the ids begin again at 0'
+
+    def lines(self, content, command='slot'):
+        self.check(content)
+        return self.tool(command, 'flash.bin').stdout.splitlines()
+
+    def test_0_is_newer_than_255(self):
+        for first, second, slot in [(255, 0, 2), (0, 255, 1)]:
+            content = flash_with(good(first), good(second))
+            for command in ('slot', 'map'):
+                with self.subTest(first=first, command=command):
+                    self.assertIn(f'slot {slot} will start: {self.WHY}', self.lines(content, command))
+                    answer, = self.json(command, 'flash.bin')
+                    self.assertEqual((answer['slot'], answer['why'], answer['next_id']), (slot, self.WHY, 1))
+
+    def test_other_pairs(self):
+        for first, second in [(254, 0), (0, 254), (255, 1), (1, 255), (255, 254), (254, 255)]:
+            newer, older = max(first, second), min(first, second)
+            with self.subTest(first=first, second=second):
+                slot = 1 if first == newer else 2
+                why = f'both images are valid, and id {newer} is newer than id {older}'
+                self.assertIn(f'slot {slot} will start: {why}', self.lines(flash_with(good(first), good(second))))
+
+    def test_next_id(self):
+        for first, second in [(9, 10), (10, 9), (7, 7), (0, 254), (255, 254), (255, 255), (255, 0), (255, 3)]:
+            with self.subTest(first=first, second=second):
+                content = flash_with(good(first), good(second))
+                starts = (first, second)[model.select(content)[1] - 1]
+                following = model.next_id(starts)
+                again = ': after 255 the ids begin again at 0' if starts == 255 else ''
+                self.assertIn(f'the next image should have id {following}{again}', self.lines(content))
+                self.assertEqual(self.json('slot', 'flash.bin')[0]['next_id'], following)
+
+    def test_next_id_after_the_only_valid_image(self):
+        for ids in [(255, 3), (3, 255), (8, 9), (9, 8)]:
+            images = [good(ids[0]), model.image(model.noise(3000, ids[1]), ids[1], flag=0)]
+            for pair, slot in [(images, 1), (images[::-1], 2)]:
+                lines = self.lines(flash_with(*pair))
+                self.assertIn(f'slot {slot} will start: it holds the only valid image', lines)
+                self.assertRegex(lines[-1], rf'^the next image should have id {model.next_id(ids[0])}\b')
+
+    def test_no_next_id_where_none_starts(self):
+        bad = model.image(model.noise(3000), 255, flag=0)
+        path = self.file('flash.bin', flash_with(bad, bad))
+        self.refused(53, 'slot', path)
+        self.assertNotIn('should have id', self.tool('slot', path, code=bench.REFUSED).stdout)
+
+    def test_an_image_with_the_next_id_starts(self):
+        """From any id on, each image with the id that was named for it takes over."""
+        ids, slot = [253, 253], 1
+        for _ in range(6):
+            answer = self.check(flash_with(*map(good, ids)))
+            self.assertEqual(answer['slot'], slot)
+            slot = 3 - slot
+            ids[slot - 1] = answer['next_id']
+        self.assertEqual(sorted(ids), [2, 3])
 
 
 class Header(SlotCase):

@@ -41,7 +41,7 @@ class Warned(bench.Case):
         expected = expected_warnings(content, header)
         self.assertEqual([each.split(';')[0] for each in warnings], expected)
         for each in warnings:
-            self.assertRegex(each, r'; [a-z]+ .*[a-z]$')
+            self.assertRegex(each, r'; [a-z]+ .*[a-z0-9]$')
 
     def check(self, content, count, header=0, text='slot', machine='map'):
         """Holds a command's text and a command's JSON to the model, and the model to how many warnings there are."""
@@ -62,14 +62,23 @@ class Versions(Warned):
     def test_the_ids_decide(self):
         for ids, versions, count in [((9, 10), (b'1.10', b'1.9'), 1), ((10, 9), (b'1.9', b'1.10'), 1),
                                      ((9, 10), (b'1.9', b'1.10'), 0), ((10, 9), (b'1.10', b'1.9'), 0),
-                                     ((0, 255), (b'2', b'1.65535.65535'), 1), ((0, 255), (b'2', b'2.0.0.1'), 0)]:
+                                     ((0, 254), (b'2', b'1.65535.65535'), 1), ((0, 254), (b'2', b'2.0.0.1'), 0),
+                                     ((0, 255), (b'2', b'1.65535.65535'), 0), ((0, 255), (b'2', b'2.0.0.1'), 1)]:
             with self.subTest(ids=ids, versions=versions):
                 self.check(flash_with(image(ids[0], versions[0]), image(ids[1], versions[1])), count)
 
     def test_words(self):
         warning, = self.check(flash_with(image(10, b'1.9'), image(9, b'1.10')), 1)
         self.assertEqual(warning, 'slot 1 starts with version 1.9, which is lower than version 1.10 in slot 2: '
-                                  'the ids decide, 10 against 9; give the image with the higher version the higher id')
+                                  'the ids decide, 10 against 9; give the image with the higher version the next id, 11')
+
+    def test_next_id(self):
+        """The id that is named makes the image with the higher version start."""
+        for ids, following in [((0, 255), 1), ((255, 254), 0), ((255, 255), 0), ((10, 9), 11)]:
+            with self.subTest(ids=ids):
+                warning, = self.check(flash_with(image(ids[0], b'1.9'), image(ids[1], b'1.10')), 1)
+                self.assertTrue(warning.endswith(f'; give the image with the higher version the next id, {following}'))
+                self.check(flash_with(image(ids[0], b'1.9'), image(following, b'1.10')), 0)
 
     def test_equal_ids(self):
         self.assertIn('both ids are 7', *self.check(flash_with(image(7, b'1.9'), image(7, b'1.10')), 1))

@@ -33,8 +33,10 @@ int run_slot(int count, char **words)
     } else {
         printf("%s: %zu bytes\n", v.path, v.flash.length);
         print_images(&v);
-        if (v.selected.number == 0)
+        if (v.selected.number == 0) {
             print_verdict(&v);
+            print_next_id(&v);
+        }
         print_warnings(&v);
     }
     return v.selected.number == 0 ? DONE : refuse(v.selected.number, "%s, header at 0x%05lX", v.path, v.header);

@@ -98,22 +98,69 @@ void print_images(const flash_view *v)
     }
 }
 
-void print_verdict(const flash_view *v)
+/* Said where the id that follows is the smaller one. */
+static void add_new_round(text *t, uint32_t id, uint32_t following)
+{
+    if (following < id)
+        text_add(t, ": after %u the ids begin again at %u", id, following);
+}
+
+/* Why the slot that will start does. */
+static void add_why(text *t, const flash_view *v)
 {
     uint32_t slot = v->selected.slot;
-    if (slot == 0) {
+    const und_image *winner = &v->images[slot - 1], *other = &v->images[2 - slot];
+    if (other->rule != 0) {
+        text_add(t, "it holds the only valid image");
+    } else if (winner->id == other->id) {
+        text_add(t, "both images are valid and have the same id");
+    } else {
+        text_add(t, "both images are valid, and id %u is newer than id %u", winner->id, other->id);
+        add_new_round(t, other->id, winner->id);
+    }
+}
+
+void print_verdict(const flash_view *v)
+{
+    if (v->selected.slot == 0) {
         const meaning *m = meaning_of(v->selected.number);
         printf("no slot will start: %s\n  next: %s\n", m->what, m->next);
         return;
     }
-    const und_image *winner = &v->images[slot - 1], *other = &v->images[2 - slot];
-    printf("slot %u will start: ", slot);
-    if (other->rule != 0)
-        printf("it holds the only valid image\n");
-    else if (winner->id == other->id)
-        printf("both images are valid and have the same id\n");
-    else
-        printf("both images are valid, and id %u is newer than id %u\n", winner->id, other->id);
+    text why = {0};
+    add_why(&why, v);
+    printf("slot %u will start: %s\n", v->selected.slot, why.chars);
+    text_free(&why);
+}
+
+static uint32_t starting_id(const flash_view *v)
+{
+    return v->images[v->selected.slot - 1].id;
+}
+
+uint32_t next_id(const flash_view *v)
+{
+    return und_next_id((uint8_t)starting_id(v));
+}
+
+void print_next_id(const flash_view *v)
+{
+    text t = {0};
+    text_add(&t, "the next image should have id %u", next_id(v));
+    add_new_round(&t, starting_id(v), next_id(v));
+    printf("%s\n", t.chars);
+    text_free(&t);
+}
+
+/* The slot that will start: why, and the id for the next image. */
+static void add_start_json(text *t, const flash_view *v)
+{
+    text why = {0};
+    add_why(&why, v);
+    text_add(t, ",\"why\":");
+    text_add_json(t, why.chars, why.length);
+    text_add(t, ",\"next_id\":%u", next_id(v));
+    text_free(&why);
 }
 
 void add_view_json(text *t, const flash_view *v, int code)
@@ -124,6 +171,8 @@ void add_view_json(text *t, const flash_view *v, int code)
              v->selected.number);
     if (v->selected.number != 0)
         text_add_meaning(t, meaning_of(v->selected.number), code);
+    else
+        add_start_json(t, v);
     text_add(t, ",\"images\":[");
     for (uint32_t i = 0; i < 2 && v->product.number == 0; i++) {
         text_add(t, "%s{\"slot\":%u,\"offset\":%u,", i ? "," : "", i + 1, v->offsets[i]);

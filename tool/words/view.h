@@ -30,6 +30,10 @@ void add_image_json(text *t, const uint8_t *memory, const und_image *image);
 void print_images(const flash_view *v);
 void print_verdict(const flash_view *v);
 
+/* Where a slot starts: the id that makes the next image newer than the one that starts, and a line that names it. */
+uint32_t next_id(const flash_view *v);
+void print_next_id(const flash_view *v);
+
 /* The same as JSON's names and values, without the braces around them. `code` is how the command ends where no slot
    starts. */
 void add_view_json(text *t, const flash_view *v, int code);
