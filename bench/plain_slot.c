@@ -23,7 +23,11 @@ static int valid_id(const uint8_t *flash, size_t flash_len, size_t offset)
 /* 0 follows 255; an image that is not valid, -1, is newer than none. */
 static int is_newer(int id, int than)
 {
-    return id > than ? id != 255 || than != 0 : id == 0 && than == 255;
+    if (id == 0 && than == 255)
+        return 1;
+    if (id == 255 && than == 0)
+        return 0;
+    return id > than;
 }
 
 und_selected plain_select(const uint8_t *flash, size_t flash_len, uint32_t header_offset)

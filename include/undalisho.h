@@ -144,9 +144,11 @@ typedef struct {
  */
 und_selected und_select(const uint8_t *flash, size_t flash_len, uint32_t header_offset);
 
-/* The id that follows an image's id, for the image after it: one more, and 0 after 255.
+/* The id that follows another: one more, and 0 after 255. It is the newer of the two. So where an image with `id`
+ * starts, a valid one with this id in the other slot starts in its place. In the same slot it may not do: 1 follows 0,
+ * and beside an image with 255 it is not the newer.
  *
- * Writes:  nothing; nothing is lent
+ * Writes:  nothing that is lent
  */
 uint8_t und_next_id(uint8_t id);
 

@@ -12,7 +12,7 @@
 #include <string.h>
 
 static const command commands[] = {
-    {"slot", "FLASH [--header OFFSET] [--json]", "names the slot that will start, shows both images", run_slot},
+    {"slot", "FLASH [--header OFFSET] [--json]", "names the slot that will start, both images, the next id", run_slot},
     {"map", "FLASH [--header OFFSET] [--json]", "draws the flash: sectors, header, images", run_map},
     {"order", "A B [--json]", "tells which of two versions is higher", run_order},
     {"offer", "INSTALLED CANDIDATE [-o CODE] [--json]", "takes the image file with the higher version", run_offer},

@@ -1,4 +1,6 @@
 """undalisho slot."""
+import os
+
 import bench
 import model
 
@@ -25,8 +27,8 @@ class SlotCase(bench.Case):
         else:
             self.assertIn(f'slot {slot} will start', self.tool('slot', path, *words).stdout)
         answer, = self.json('slot', path, *words, code=1 if number else 0)
-        self.assertEqual('next_id' in answer, number == 0)
-        self.assertEqual('why' in answer, number == 0)
+        for name in ('next_id', 'next_slot'):
+            self.assertEqual(name in answer, number == 0)
         if number != 3:
             self.assertEqual((answer['number'], answer['slot'], answer['bytes']), (number, slot, len(content)))
             self.assertEqual((answer['flash'], answer['header']), (path, header))
@@ -35,12 +37,11 @@ class SlotCase(bench.Case):
 
 class Slot(SlotCase):
     def test_ids(self):
-        for first, second in [(9, 10), (10, 9), (7, 7), (0, 254), (254, 0), (1, 2), (0, 0)]:
+        for first, second in [(9, 10), (10, 9), (7, 7), (1, 2), (0, 0)]:
             with self.subTest(first=first, second=second):
                 answer = self.check(flash_with(good(first), good(second)))
                 self.assertEqual(answer['slot'], 2 if second > first else 1)
                 self.assertEqual([each['id'] for each in answer['images']], [first, second])
-                self.assertNotIn('begin again', answer['why'])
 
     def test_says_what_it_shows(self):
         path = self.file('flash.bin', flash_with(good(9, 3000, b'1.9'), good(10, 4000, b'1.10')))
@@ -64,6 +65,17 @@ class Slot(SlotCase):
         for length in [LENGTH, 0x80000, model.FLASH_MOST]:
             self.check(flash_with(good(3), good(4), length=length))
 
+    def test_names_in_json_are_in_the_man_page(self):
+        with open(os.path.join(os.path.dirname(__file__), '..', '..', 'tool', 'undalisho.1')) as page:
+            section = page.read().partition('.SH ANSWERS AS JSON')[2].partition('.SH')[0]
+        for images in [(good(1), good(2)), (good(1), b''), (b'', b'')]:
+            path = self.file('flash.bin', flash_with(*images))
+            for command in ('slot', 'map'):
+                done = model.select(flash_with(*images))[0] == 0 or command == 'map'
+                answer = self.json(command, path, code=bench.DONE if done else bench.REFUSED)[0]
+                for name in [*answer, *(each for image in answer['images'] for each in image)]:
+                    self.assertIn(f'\\fB{name}\\fR', section, name)
+
     def test_file_names(self):
         content = flash_with(good(1), good(2))
         for name in ['with space', '-o', 'quo"te\\', 'a\nb', 'größe.bin']:
@@ -74,62 +86,62 @@ class Slot(SlotCase):
 
 class NewRound(SlotCase):
     """After 255 the ids begin again at 0."""
-    WHY = 'both images are valid, and id 0 is newer than id 255: after 255 the ids begin again at 0'
+    SINCE = ', since after 255 the ids begin again at 0'
 
     def lines(self, content, command='slot'):
         self.check(content)
         return self.tool(command, 'flash.bin').stdout.splitlines()
 
-    def test_0_is_newer_than_255(self):
-        for first, second, slot in [(255, 0, 2), (0, 255, 1)]:
-            content = flash_with(good(first), good(second))
-            for command in ('slot', 'map'):
-                with self.subTest(first=first, command=command):
-                    self.assertIn(f'slot {slot} will start: {self.WHY}', self.lines(content, command))
-                    answer, = self.json(command, 'flash.bin')
-                    self.assertEqual((answer['slot'], answer['why'], answer['next_id']), (slot, self.WHY, 1))
+    def test_pairs(self):
+        for newer, older in [(0, 255), (254, 0), (255, 1), (255, 254)]:
+            words = f'both images are valid, and id {newer} is newer than id {older}' + (self.SINCE if newer == 0 else '')
+            for ids, slot in [((newer, older), 1), ((older, newer), 2)]:
+                content = flash_with(*map(good, ids))
+                for command in ('slot', 'map'):
+                    with self.subTest(ids=ids, command=command):
+                        self.assertIn(f'slot {slot} will start: {words}', self.lines(content, command))
+                        answer, = self.json(command, 'flash.bin')
+                        self.assertEqual((answer['slot'], answer['words']), (slot, words))
 
-    def test_other_pairs(self):
-        for first, second in [(254, 0), (0, 254), (255, 1), (1, 255), (255, 254), (254, 255)]:
-            newer, older = max(first, second), min(first, second)
-            with self.subTest(first=first, second=second):
-                slot = 1 if first == newer else 2
-                why = f'both images are valid, and id {newer} is newer than id {older}'
-                self.assertIn(f'slot {slot} will start: {why}', self.lines(flash_with(good(first), good(second))))
+    def check_next(self, content, starts):
+        """The next id, in the slot that does not start."""
+        following, slot = model.next_id(starts), 3 - model.select(content)[1]
+        line = f'the next image should have id {following}, in slot {slot}' + (self.SINCE if starts == 255 else '')
+        self.assertIn(line, self.lines(content))
+        for command in ('slot', 'map'):
+            answer, = self.json(command, 'flash.bin')
+            self.assertEqual((answer['next_id'], answer['next_slot']), (following, slot))
 
     def test_next_id(self):
-        for first, second in [(9, 10), (10, 9), (7, 7), (0, 254), (255, 254), (255, 255), (255, 0), (255, 3)]:
-            with self.subTest(first=first, second=second):
-                content = flash_with(good(first), good(second))
-                starts = (first, second)[model.select(content)[1] - 1]
-                following = model.next_id(starts)
-                again = ': after 255 the ids begin again at 0' if starts == 255 else ''
-                self.assertIn(f'the next image should have id {following}{again}', self.lines(content))
-                self.assertEqual(self.json('slot', 'flash.bin')[0]['next_id'], following)
+        for ids in [(9, 10), (10, 9), (7, 7), (0, 254), (254, 255), (255, 254), (255, 255), (255, 0), (255, 3)]:
+            with self.subTest(ids=ids):
+                content = flash_with(*map(good, ids))
+                self.check_next(content, ids[model.select(content)[1] - 1])
 
     def test_next_id_after_the_only_valid_image(self):
-        for ids in [(255, 3), (3, 255), (8, 9), (9, 8)]:
-            images = [good(ids[0]), model.image(model.noise(3000, ids[1]), ids[1], flag=0)]
-            for pair, slot in [(images, 1), (images[::-1], 2)]:
-                lines = self.lines(flash_with(*pair))
-                self.assertIn(f'slot {slot} will start: it holds the only valid image', lines)
-                self.assertRegex(lines[-1], rf'^the next image should have id {model.next_id(ids[0])}\b')
+        for valid, other in [(255, 3), (3, 255), (8, 9)]:
+            images = [good(valid), model.image(model.noise(3000), other, flag=0)]
+            for pair in (images, images[::-1]):
+                with self.subTest(valid=valid, first=pair[0] is images[0]):
+                    self.check_next(flash_with(*pair), valid)
 
     def test_no_next_id_where_none_starts(self):
         bad = model.image(model.noise(3000), 255, flag=0)
         path = self.file('flash.bin', flash_with(bad, bad))
-        self.refused(53, 'slot', path)
         self.assertNotIn('should have id', self.tool('slot', path, code=bench.REFUSED).stdout)
+        for command, code in [('slot', bench.REFUSED), ('map', bench.DONE)]:
+            self.assertEqual({'next_id', 'next_slot'} & set(self.json(command, path, code=code)[0]), set())
 
-    def test_an_image_with_the_next_id_starts(self):
-        """From any id on, each image with the id that was named for it takes over."""
-        ids, slot = [253, 253], 1
-        for _ in range(6):
+    def test_each_next_image_starts(self):
+        """From 253 on past 255, each image that is as it was named for the next takes over."""
+        ids = [253, 253]
+        answer = self.check(flash_with(*map(good, ids)))
+        for _ in range(5):
+            slot = answer['next_slot']
+            ids[slot - 1] = answer['next_id']
             answer = self.check(flash_with(*map(good, ids)))
             self.assertEqual(answer['slot'], slot)
-            slot = 3 - slot
-            ids[slot - 1] = answer['next_id']
-        self.assertEqual(sorted(ids), [2, 3])
+        self.assertEqual(ids, [1, 2])
 
 
 class Header(SlotCase):

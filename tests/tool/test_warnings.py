@@ -70,14 +70,16 @@ class Versions(Warned):
     def test_words(self):
         warning, = self.check(flash_with(image(10, b'1.9'), image(9, b'1.10')), 1)
         self.assertEqual(warning, 'slot 1 starts with version 1.9, which is lower than version 1.10 in slot 2: '
-                                  'the ids decide, 10 against 9; give the image with the higher version the next id, 11')
+                                  'the ids decide, 10 against 9; give the image with the higher version id 11, in slot 2')
 
     def test_next_id(self):
         """The id that is named makes the image with the higher version start."""
-        for ids, following in [((0, 255), 1), ((255, 254), 0), ((255, 255), 0), ((10, 9), 11)]:
+        since = ', since after 255 the ids begin again at 0'
+        for ids, following, why in [((0, 255), 1, ''), ((255, 254), 0, since), ((255, 255), 0, since), ((10, 9), 11, '')]:
             with self.subTest(ids=ids):
                 warning, = self.check(flash_with(image(ids[0], b'1.9'), image(ids[1], b'1.10')), 1)
-                self.assertTrue(warning.endswith(f'; give the image with the higher version the next id, {following}'))
+                self.assertEqual(warning.split('; ')[1],
+                                 f'give the image with the higher version id {following}, in slot 2{why}')
                 self.check(flash_with(image(ids[0], b'1.9'), image(following, b'1.10')), 0)
 
     def test_equal_ids(self):

@@ -1,4 +1,4 @@
-/* undalisho slot: the slot that will start, and both images. */
+/* undalisho slot: the slot that will start, both images, and the id for the next one. */
 #include "slot.h"
 
 #include "commands.h"

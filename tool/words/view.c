@@ -21,6 +21,10 @@ static void ask_library(flash_view *v)
     v->offsets[1] = v->product.second;
     for (int i = 0; i < 2; i++)
         v->images[i] = und_read_image(v->flash.bytes, v->flash.length, v->offsets[i]);
+    if (v->selected.slot == 0)
+        return;
+    v->next_id = und_next_id((uint8_t)v->images[v->selected.slot - 1].id);
+    v->next_slot = 3 - v->selected.slot;
 }
 
 int view_file(flash_view *v, const char *path, unsigned long header)
@@ -98,14 +102,14 @@ void print_images(const flash_view *v)
     }
 }
 
-/* Said where the id that follows is the smaller one. */
-static void add_new_round(text *t, uint32_t id, uint32_t following)
+/* Where the newer id is the smaller one. */
+static void add_new_round(text *t, uint32_t older, uint32_t newer)
 {
-    if (following < id)
-        text_add(t, ": after %u the ids begin again at %u", id, following);
+    if (newer < older)
+        text_add(t, ", since after %u the ids begin again at %u", older, newer);
 }
 
-/* Why the slot that will start does. */
+/* Why that slot starts. */
 static void add_why(text *t, const flash_view *v)
 {
     uint32_t slot = v->selected.slot;
@@ -133,33 +137,28 @@ void print_verdict(const flash_view *v)
     text_free(&why);
 }
 
-static uint32_t starting_id(const flash_view *v)
+void add_next_id(text *t, const flash_view *v)
 {
-    return v->images[v->selected.slot - 1].id;
-}
-
-uint32_t next_id(const flash_view *v)
-{
-    return und_next_id((uint8_t)starting_id(v));
+    text_add(t, "id %u, in slot %u", v->next_id, v->next_slot);
+    add_new_round(t, v->images[v->selected.slot - 1].id, v->next_id);
 }
 
 void print_next_id(const flash_view *v)
 {
     text t = {0};
-    text_add(&t, "the next image should have id %u", next_id(v));
-    add_new_round(&t, starting_id(v), next_id(v));
-    printf("%s\n", t.chars);
+    add_next_id(&t, v);
+    printf("the next image should have %s\n", t.chars);
     text_free(&t);
 }
 
-/* The slot that will start: why, and the id for the next image. */
+/* Why that slot starts, and the id and the slot for the next image. */
 static void add_start_json(text *t, const flash_view *v)
 {
     text why = {0};
     add_why(&why, v);
-    text_add(t, ",\"why\":");
+    text_add(t, ",\"words\":");
     text_add_json(t, why.chars, why.length);
-    text_add(t, ",\"next_id\":%u", next_id(v));
+    text_add(t, ",\"next_id\":%u,\"next_slot\":%u", v->next_id, v->next_slot);
     text_free(&why);
 }
 

@@ -16,7 +16,8 @@ typedef struct {
     und_product product;
     und_selected selected;
     uint32_t offsets[2];
-    und_image images[2]; /* only where the product header is good */
+    und_image images[2];         /* only where the product header is good */
+    uint32_t next_id, next_slot; /* for the next image; only where a slot starts */
 } flash_view;
 
 /* Reads a flash file and the library's answers. Gives DONE, or the exit code after it has said what is wrong. */
@@ -30,8 +31,9 @@ void add_image_json(text *t, const uint8_t *memory, const und_image *image);
 void print_images(const flash_view *v);
 void print_verdict(const flash_view *v);
 
-/* Where a slot starts: the id that makes the next image newer than the one that starts, and a line that names it. */
-uint32_t next_id(const flash_view *v);
+/* Where a slot starts, the id for the next image and its slot: "id 10, in slot 1". In the slot that starts now, that id
+   may not do: 1 follows 0, and 255 in the other slot would be newer than 1. */
+void add_next_id(text *t, const flash_view *v);
 void print_next_id(const flash_view *v);
 
 /* The same as JSON's names and values, without the braces around them. `code` is how the command ends where no slot

@@ -52,7 +52,8 @@ static void warn_of_version(warnings *w, const flash_view *v)
         text_add(t, "both ids are %u, so slot 1 starts", winner->id);
     else
         text_add(t, "the ids decide, %u against %u", winner->id, other->id);
-    text_add(t, "; give the image with the higher version the next id, %u", next_id(v));
+    text_add(t, "; give the image with the higher version ");
+    add_next_id(t, v);
 }
 
 /* How many bytes of code the image has; 0 where they would not all lie in the flash, or are more than code may have,

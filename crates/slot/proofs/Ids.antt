@@ -2,13 +2,23 @@
 -- Assumes nothing.
 use Prim.Native.Nat.{ℕ, _+_, _<_}
 use native.Mathlib.Omega.{arith}
-use mathlib.Core.Path.{_≡_, refl, sym}
+use mathlib.Core.Path.{_≡_, refl}
 use mathlib.Core.Bool.{true}
-use borrow.Author.Tests.{eqb-true, lt-ltb, le-ltb}
+use borrow.Author.Tests.{eqb-true, eq-eqb, ne-eqb, lt-ltb, le-ltb}
 use borrow.Table.Steps.{cases}
 use Rattle.wire.specs.Bytes.{Byte}
 use Rattle.slot.specs.Id.{nextId, follows, isNewer}
-use Rattle.slot.specs.IdLaws.{ZeroAfter255, OthersBySize}
+use Rattle.slot.specs.IdLaws.{NextIsNewer, ZeroAfter255, OthersBySize}
+
+-- the next but one is another id
+not-back : (id : ℕ) → Byte id → id ≡ nextId (nextId id) → ⊥
+not-back id b e = omega (arith, e)
+
+pub next-is-newer : NextIsNewer
+unfolding isNewer
+next-is-newer id b =
+    let same = eq-eqb (nextId id) (nextId id) refl in
+    (rw same, rw (ne-eqb id (nextId (nextId id)) (not-back id b), same))
 
 pub zero-after-255 : ZeroAfter255
 unfolding isNewer

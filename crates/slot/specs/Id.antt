@@ -8,10 +8,11 @@ use lib.Dec.{eqb, ltb}
 abbrev pub nextId : (id : ℕ) → ℕ
 nextId id = (id + 1) % 256
 
+-- whether an id is the one that follows another
 abbrev pub follows : (id other : ℕ) → Bool
 follows id other = eqb id (nextId other)
 
--- an id is newer than the one that it follows and not newer than the one that follows it; of all others the larger is the newer
+-- where one of two ids follows the other, it is the newer; of any other two the larger
 unfoldable pub isNewer : (id than : ℕ) → Bool
 isNewer id than =
     cond (follows id than) true

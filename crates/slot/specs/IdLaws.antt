@@ -1,15 +1,18 @@
--- What the order of ids comes to (rules, 10.3): of 255 and 0, 0 is the newer; of any two other ids the larger.
+-- What the order of ids comes to (rules, 10.3): the next id is the newer; of 255 and 0 that is 0; of any other two ids the larger.
 -- Assumes nothing.
 use Prim.Native.Nat.{ℕ, _+_, _<_}
 use mathlib.Core.Path.{_≡_}
 use mathlib.Core.Bool.{true, false}
 use lib.Dec.{ltb}
 use Rattle.wire.specs.Bytes.{Byte}
-use Rattle.slot.specs.Id.{isNewer}
+use Rattle.slot.specs.Id.{nextId, isNewer}
+
+abbrev pub NextIsNewer : Type 0
+NextIsNewer = (id : ℕ) → Byte id → (isNewer (nextId id) id ≡ true) × (isNewer id (nextId id) ≡ false)
 
 abbrev pub ZeroAfter255 : Type 0
 ZeroAfter255 = (isNewer 0 255 ≡ true) × (isNewer 255 0 ≡ false)
 
--- no two other ids are 255 apart
+-- 255 and 0 alone are 255 apart
 abbrev pub OthersBySize : Type 0
 OthersBySize = (id than : ℕ) → Byte id → Byte than → id < than + 255 → than < id + 255 → isNewer id than ≡ ltb than id
