@@ -8,7 +8,11 @@ use borrow.Author.Tests.{eqb-true, eq-eqb, ne-eqb, lt-ltb, le-ltb}
 use borrow.Table.Steps.{cases}
 use Rattle.wire.specs.Bytes.{Byte}
 use Rattle.slot.specs.Id.{nextId, follows, isNewer}
-use Rattle.slot.specs.IdLaws.{NextIsNewer, ZeroAfter255, OthersBySize}
+use Rattle.slot.specs.IdLaws.{ZeroAfter255, NextIsNewer, OthersBySize}
+
+pub zero-after-255 : ZeroAfter255
+unfolding isNewer
+zero-after-255 = (refl, (refl, refl))
 
 -- the next but one is another id
 not-back : (id : ℕ) → Byte id → id ≡ nextId (nextId id) → ⊥
@@ -19,10 +23,6 @@ unfolding isNewer
 next-is-newer id b =
     let same = eq-eqb (nextId id) (nextId id) refl in
     (rw same, rw (ne-eqb id (nextId (nextId id)) (not-back id b), same))
-
-pub zero-after-255 : ZeroAfter255
-unfolding isNewer
-zero-after-255 = (refl, refl)
 
 -- an id that follows one that is less than 255 above it is the larger
 larger : (id other : ℕ) → Byte other → other < id + 255 → follows id other ≡ true → other < id
