@@ -57,7 +57,7 @@ fn tested(
 }
 
 // What is tested of a command. One without a range in a memory has an empty range at the memory's start.
-fn checks_of(command: Command) -> Checks
+pub fn checks_of(command: Command) -> Checks
     ensures { λ r. ⌜ r ≡ checksOf command ⌝ }
 {
     let first = RamAddress(RAM_BASE);

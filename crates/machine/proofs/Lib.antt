@@ -16,3 +16,4 @@ pub mod Acknowledgements
 pub mod Bulks
 pub mod Turns
 pub mod Reaches
+pub mod Leavings

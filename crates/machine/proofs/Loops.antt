@@ -109,24 +109,27 @@ module _ {A S : Type 0} (m : Machine A S) (s₀ : S) (input : List A) (old : Lis
         let full : length old - j < length (m .says s (take views (drop i input))) = omega (arith, f, r .same-length, r .sent-fits) in
         done 2 (call-full m s (drop i input) (length old - j) views e full) (rw (e, le-ltb _ _ shown) refl)
 
--- the same for a line
-module _ {A S : Type 0} (need : S → Need) (took : S → A → S) (byte : S → ℕ) (sent : S → S) (due : S → ℕ) where
-  abbrev m : Machine A S
-  m = line need took byte sent due
+-- an action that takes one symbol and sends nothing, and one that sends a byte with nothing in view
+module _ {A S : Type 0} (m : Machine A S) {Good : A → Type 0} {Sound : S → Type 0} (law : Lawful m Good Sound) {s₀ : S} {input : List A} {old : List ℕ}
+    {s : S} {i j : ℕ} {reply : List ℕ} (r : Reached m s₀ input old s i j reply) where
+  -- whether it takes the symbol or leaves it
+  pub reached-look : (d : A) → m .need s ≡ machine.takeOne → i < length input → let view = getD input i d ∷ [] in m .says s view ≡ [] →
+      Reached m s₀ input old (m .after s view) (i + m .takes s view) j reply
+  reached-look d e h q =
+      let view : take 1 (drop i input) ≡ getD input i d ∷ [] = rw (drop-cons input i d h) refl in
+      rw view at (reached-silent m s₀ input old s i j reply r law 1 e (omega arith) (rw view q))
 
-  module _ {Good : A → Type 0} {Sound : S → Type 0} (law : Lawful m Good Sound) {s₀ : S} {input : List A} {old : List ℕ}
-      {s : S} {i j : ℕ} {reply : List ℕ} (r : Reached m s₀ input old s i j reply) where
-    pub reached-take : (d : A) → need s ≡ machine.takeOne → i < length input → Reached m s₀ input old (took s (getD input i d)) (i + 1) j reply
-    reached-take d e h =
-        let view : take 1 (drop i input) ≡ getD input i d ∷ [] = rw (drop-cons input i d h) refl in
-        rw view at (reached-silent m s₀ input old s i j reply r law 1 e (omega arith) (rw view refl))
+  pub reached-take : (d : A) → m .need s ≡ machine.takeOne → i < length input → let view = getD input i d ∷ [] in m .says s view ≡ [] → m .takes s view ≡ 1 →
+      Reached m s₀ input old (m .after s view) (i + 1) j reply
+  reached-take d e h q one = rw one at (reached-look d e h q)
 
-    pub reached-send : need s ≡ machine.sendOne → j < length reply → Reached m s₀ input old (sent s) i (j + 1) (set reply j (byte s))
-    reached-send e h =
-        rw add-zero at (reached-byte m s₀ input old s i j reply r law 0 e (omega (arith, r .taken-fits)) (byte s) refl h)
+  pub reached-send : m .need s ≡ machine.sendOne → (b : ℕ) → m .says s [] ≡ b ∷ [] → j < length reply → Reached m s₀ input old (m .after s []) i (j + 1) (set reply j b)
+  reached-send e b q h =
+      let none : m .takes s [] ≡ 0 = omega (arith, law .takes-in-view s []) in
+      rw (none, add-zero) at (reached-byte m s₀ input old s i j reply r law 0 e (omega (arith, r .taken-fits)) b q h)
 
-    pub acted-hungry : need s ≡ machine.takeOne → length input ≤ i → Acted m s₀ input old i j 1 s reply
-    acted-hungry e h = acted-short m s₀ input old s i j reply r 1 e (omega arith)
+  pub acted-hungry : m .need s ≡ machine.takeOne → length input ≤ i → Acted m s₀ input old i j 1 s reply
+  acted-hungry e h = acted-short m s₀ input old s i j reply r 1 e (omega arith)
 
-    pub acted-choked : need s ≡ machine.sendOne → length reply ≤ j → Acted m s₀ input old i j 2 s reply
-    acted-choked e h = acted-full m s₀ input old s i j reply r 0 e (omega (arith, r .taken-fits)) (omega arith)
+  pub acted-choked : m .need s ≡ machine.sendOne → 0 < length (m .says s []) → length reply ≤ j → Acted m s₀ input old i j 2 s reply
+  acted-choked e speaks h = acted-full m s₀ input old s i j reply r 0 e (omega (arith, r .taken-fits)) (omega arith)

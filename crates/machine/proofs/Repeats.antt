@@ -3,32 +3,29 @@
 use Prim.Native.Nat.{ℕ, _+_, _≤_}
 use native.Mathlib.Nat.{add-zero, add-suc}
 use native.Mathlib.Numerals.{add-one}
-use mathlib.Core.Path.{_≡_, refl, ap, _∙_}
+use mathlib.Core.Path.{_≡_, refl, _∙_}
 use mathlib.Core.List.{List, [], _∷_}
 use lib.ListN.{length, getD, length-set}
-use Rattle.machine.specs.Machine.{Need, Machine, line}
+use Rattle.machine.specs.Machine.{Machine}
 use Rattle.machine.specs.Lawful.{Any, Kept, Lawful}
 use Rattle.machine.specs.Steps.{Takes, Sends}
 use Rattle.machine.specs.Steps as steps
 use Rattle.machine.proofs.Loops.{Reached, reached-take, reached-send}
 
-module _ {S : Type 0} (need : S → Need) (took : S → ℕ → S) (byte : S → ℕ) (sent : S → S) (due : S → ℕ) where
-  abbrev m : Machine ℕ S
-  m = line need took byte sent due
+-- of a machine whose takes send nothing
+module _ {S : Type 0} (m : Machine ℕ S) (silent : (s : S) (a : ℕ) → m .says s (a ∷ []) ≡ []) {Good : ℕ → Type 0} {Sound : S → Type 0} (law : Lawful m Good Sound)
+    {s₀ : S} {input : List ℕ} {old : List ℕ} where
+  pub reached-takes : {s t : S} {i j count : ℕ} {reply : List ℕ} → Reached m s₀ input old s i j reply → Takes m input i s count t →
+      Reached m s₀ input old t (i + count) j reply
+  reached-takes r steps.none = rw add-zero r
+  reached-takes {i = i} r (steps.more {count} {t} before e one h) =
+      rw (add-suc i count, ← add-one (i + count)) (reached-take m law (reached-takes r before) 0 e h (silent t (getD input (i + count) 0)) one)
 
-  module _ {Good : ℕ → Type 0} {Sound : S → Type 0} (law : Lawful m Good Sound) {s₀ : S} {input : List ℕ} {old : List ℕ} where
-    pub reached-takes : {s t : S} {i j count : ℕ} {reply : List ℕ} → Reached m s₀ input old s i j reply → Takes m input i s count t →
-        Reached m s₀ input old t (i + count) j reply
-    reached-takes r steps.none = rw add-zero r
-    reached-takes {i = i} r (steps.more {count} {t} before e one h) =
-        rw (add-suc i count, ← add-one (i + count)) (reached-take need took byte sent due law (reached-takes r before) 0 e h)
-
-    pub reached-sends : {s t : S} {i j count : ℕ} {reply after : List ℕ} → Reached m s₀ input old s i j reply → Sends m s j reply count t after →
-        Reached m s₀ input old t i (j + count) after
-    reached-sends r steps.none = rw add-zero r
-    reached-sends {j = j} r (steps.more {count} {byte = b} {t} before e says h) =
-        let is : byte t ≡ b = ap (λ (l : List ℕ). getD l 0 0) says in
-        rw (add-suc j count, ← add-one (j + count), ← is) (reached-send need took byte sent due law (reached-sends r before) e h)
+  pub reached-sends : {s t : S} {i j count : ℕ} {reply after : List ℕ} → Reached m s₀ input old s i j reply → Sends m s j reply count t after →
+      Reached m s₀ input old t i (j + count) after
+  reached-sends r steps.none = rw add-zero r
+  reached-sends {j = j} r (steps.more {count} {byte = b} {t} before e says h) =
+      rw (add-suc j count, ← add-one (j + count)) (reached-send m law (reached-sends r before) e b says h)
 
 -- what single actions keep, whatever the bytes, several keep
 module _ {S : Type 0} (m : Machine ℕ S) (P : S → Type 0) (kept : Kept m Any (λ _ s. P s)) where

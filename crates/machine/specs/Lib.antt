@@ -15,3 +15,4 @@ pub mod Listing
 pub mod SessionLaws
 pub mod SessionClaim
 pub mod Reach
+pub mod Leaving

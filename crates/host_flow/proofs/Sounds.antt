@@ -1,0 +1,121 @@
+-- Every action leaves a sound state, and what is lent but for the bytes of the answer.
+-- Assumes nothing.
+use Prim.Native.Nat.{ℕ, _+_, _<_}
+use native.Mathlib.Omega.{arith}
+use mathlib.Core.Path.{_≡_, refl, sym, ap, _∙_}
+use mathlib.Core.Bool.{Bool, true, false, cond, not, _&&_}
+use mathlib.Core.List.{List, []}
+use lib.Dec.{eqb, ltb}
+use lib.ListN.{length, drop, set, length-set}
+use lib.Seq.{drop-set-lt}
+use borrow.Author.Tests.{ltb-true, eqb-true, eqb-false, not-true}
+use Rattle.wire.specs.Line.{stx, ack, nak}
+use Rattle.wire.proofs.Tests.{in-cond, both-true}
+use Rattle.numbers.specs.Number.{paired, lowByte}
+use Rattle.machine.proofs.Doing.{Leaves}
+use Rattle.host_command.specs.declared.Follows.{Follows}
+use Rattle.host_command.specs.declared.Follows.the-variants.{Answers, Runs, Greets}
+use Rattle.host_command.specs.declared.Exchange.{Exchange}
+use Rattle.host_command.specs.Exchange.{Lent, exchange, awaitedOf, awaited}
+use Rattle.host_command.specs.Refusal.{refusalOf}
+use Rattle.host_flow.specs.declared.step.Step.{Step}
+use Rattle.host_flow.specs.declared.step.Step.the-variants.{TakeGreeting, SendHeader, TakeHeaderAck, SendPayload, TakePayloadAck, TakeCrcLow, TakeCrcHigh, SendGo, SendNak, TakeLengthLow, TakeLengthHigh, SendAnswerGo, TakeAnswer, SendCrcLow, SendCrcHigh, TakeLastAck, Look, Over}
+use Rattle.host_flow.specs.State.{State, state}
+use Rattle.host_flow.specs.Flow.{deviceRefused, deviceCrc, outOfFlow, etx, greetingLength, headerLength, payloadCrc, behind, headed, stored, goes, ends, expected, doesAt, does}
+use Rattle.host_flow.specs.Sound.{HasAnswer, SoundStep, Ready}
+use Rattle.host_flow.specs.Stays.{OnlyAnswer}
+
+-- a sound state, and of what was lent at first only answer bytes have changed
+pub record Held (c₀ : Lent) (s : State) : Type 0 where
+  pub ready : Ready (s .step) (s .lent)
+  pub only : OnlyAnswer c₀ (s .lent)
+
+pub only-same : (c : Lent) → OnlyAnswer c c
+only-same c = record { same-opcode = refl; same-payload = refl; same-length = refl; others-stay = refl }
+
+pub only-more : (a b c : Lent) → OnlyAnswer a b → OnlyAnswer b c → OnlyAnswer a c
+only-more a b c x y =
+    record {
+      same-opcode = y .same-opcode ∙ x .same-opcode;
+      same-payload = y .same-payload ∙ x .same-payload;
+      same-length = y .same-length ∙ x .same-length;
+      others-stay = rw (x .same-opcode, x .same-payload) at (y .others-stay) ∙ x .others-stay;
+    }
+
+behind-sound : (x : Exchange) (f : Follows) → x .follows ≡ f → SoundStep x (behind f)
+behind-sound x (Answers size) e = rw e tt
+behind-sound x Runs e = tt
+behind-sound x Greets e = e
+
+headed-sound : (x : Exchange) → SoundStep x (headed x)
+headed-sound x = in-cond (SoundStep x) (eqb (x .size) 0) _ _ (λ t. behind-sound x (x .follows) refl) (λ t. omega (arith, eqb-false (x .size) 0 t))
+
+-- an answer of the awaited length is not empty
+length-some : (size wanted : ℕ) → (eqb size wanted && not (eqb size 0)) ≡ true → 0 < wanted
+length-some size wanted e =
+    let both = both-true (eqb size wanted) (not (eqb size 0)) e in
+    omega (arith, eqb-true size wanted (both .0), eqb-false size 0 (not-true (eqb size 0) (both .1)))
+
+module _ (c₀ : Lent) where
+  module _ (reason : ℕ) (c : Lent) (ok : refusalOf c ≡ 0) (only : OnlyAnswer c₀ c) where
+    at : (step : Step) (why : ℕ) → SoundStep (exchange c) step → Held c₀ (state step why c)
+    at step why h = record { ready = record { accepted = ok; step-sound = h }; only = only }
+
+    expected-held : (awaits byte : ℕ) (next : Step) → SoundStep (exchange c) next → Held c₀ (expected reason c awaits byte next)
+    expected-held awaits byte next h =
+        in-cond (Held c₀) (eqb byte awaits) _ _ (λ t. at next reason h) (λ t. at Over (cond (eqb byte nak) deviceRefused outOfFlow) tt)
+
+    stored-accepted : (place byte : ℕ) → refusalOf (stored place byte c) ≡ 0
+    unfolding refusalOf
+    stored-accepted place byte = rw (length-set (c .answer) place byte) ok
+
+    stored-only : (place byte : ℕ) → place < awaited c → OnlyAnswer c₀ (stored place byte c)
+    stored-only place byte h =
+        let here : place < awaited c₀ = rw (only .same-opcode, only .same-payload) at h in
+        record {
+          same-opcode = only .same-opcode;
+          same-payload = only .same-payload;
+          same-length = length-set (c .answer) place byte ∙ only .same-length;
+          others-stay = drop-set-lt (awaited c₀) (c .answer) place byte here ∙ only .others-stay;
+        }
+
+    module _ (Good : ℕ → Type 0) where
+      does-held : (step : Step) → SoundStep (exchange c) step → Leaves Good (λ _ t. Held c₀ t) [] (state step reason c) (doesAt reason c step)
+      does-held (TakeGreeting place) h = λ byte g.
+          in-cond (Held c₀) (eqb place 0) _ _ (λ t. expected-held stx byte (TakeGreeting 1) (omega arith)) (λ z.
+          in-cond (Held c₀) (ltb (place + 1) greetingLength) _ _ (λ t. at (TakeGreeting (place + 1)) reason (ltb-true (place + 1) greetingLength t)) (λ t.
+          expected-held etx byte (SendHeader 0) (omega arith)))
+      does-held (SendHeader place) h =
+          in-cond (λ (x : Step). Held c₀ (state x reason c)) (ltb (place + 1) headerLength) _ _
+          (λ t. at (SendHeader (place + 1)) reason (ltb-true (place + 1) headerLength t)) (λ t. at TakeHeaderAck reason tt)
+      does-held TakeHeaderAck h = λ byte g. expected-held ack byte (headed (exchange c)) (headed-sound (exchange c))
+      does-held (SendPayload place) h =
+          in-cond (λ (x : Step). Held c₀ (state x reason c)) (ltb (place + 1) (exchange c .size)) _ _
+          (λ t. at (SendPayload (place + 1)) reason (ltb-true (place + 1) (exchange c .size) t)) (λ t. at TakePayloadAck reason (omega (arith, h)))
+      does-held TakePayloadAck h = λ byte g. expected-held ack byte TakeCrcLow h
+      does-held TakeCrcLow h = λ byte g. at (TakeCrcHigh byte) reason h
+      does-held (TakeCrcHigh low) h = λ byte g.
+          in-cond (Held c₀) (eqb (paired low byte) (payloadCrc (c .payload))) _ _ (λ t. at SendGo reason h) (λ t. at SendNak deviceCrc h)
+      does-held SendGo h = at (behind (exchange c .follows)) reason (behind-sound (exchange c) (exchange c .follows) refl)
+      does-held SendNak h = at Over reason tt
+      does-held TakeLengthLow h = λ byte g.
+          in-cond (Held c₀) (eqb byte nak && not (eqb byte (lowByte (awaited c)))) _ _ (λ t. at Over deviceRefused tt) (λ t. at (TakeLengthHigh byte) reason h)
+      does-held (TakeLengthHigh low) h = λ byte g.
+          in-cond (Held c₀) (eqb (paired low byte) (awaited c) && not (eqb (paired low byte) 0)) _ _
+          (λ t. at SendAnswerGo reason (length-some (paired low byte) (awaited c) t)) (λ t. at Over outOfFlow tt)
+      does-held SendAnswerGo h = at (TakeAnswer 0) reason h
+      does-held (TakeAnswer place) h = λ byte g.
+          in-cond (λ (x : Step). Held c₀ (state x reason (stored place byte c))) (ltb (place + 1) (awaited c)) _ _
+          (λ t. record {
+            ready = record { accepted = stored-accepted place byte; step-sound = ltb-true (place + 1) (awaited c) t };
+            only = stored-only place byte h;
+          })
+          (λ t. record { ready = record { accepted = stored-accepted place byte; step-sound = omega (arith, h) }; only = stored-only place byte h })
+      does-held SendCrcLow h = at SendCrcHigh reason h
+      does-held SendCrcHigh h = at TakeLastAck reason h
+      does-held TakeLastAck h = λ byte g. expected-held ack byte Over tt
+      does-held Look h = λ byte g. expected-held stx byte Over tt
+      does-held Over h = tt
+
+  pub stays-held : (Good : ℕ → Type 0) (s : State) → Held c₀ s → Leaves Good (λ _ t. Held c₀ t) [] s (does s)
+  stays-held Good s h = does-held (s .reason) (s .lent) (h .ready .accepted) (h .only) Good (s .step) (h .ready .step-sound)

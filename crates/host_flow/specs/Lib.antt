@@ -1,0 +1,9 @@
+pub mod State
+pub mod Flow
+pub mod Due
+pub mod Host
+pub mod Fresh
+pub mod Sound
+pub mod Stays
+pub mod Gives
+pub mod Ask
