@@ -2,14 +2,18 @@
 -- Assumes nothing.
 use Prim.Native.Nat.{ℕ}
 use mathlib.Core.Path.{_≡_}
+use mathlib.Core.Bool.{cond}
 use mathlib.Core.List.{List}
+use lib.Dec.{eqb}
+use Rattle.wire.specs.Line.{stx}
 use Rattle.machine.specs.Steps.{Taken, Sent}
 use Rattle.host_command.specs.Exchange.{Lent, lent, awaited}
 use Rattle.host_flow.specs.declared.step.Step.{Step}
-use Rattle.host_flow.specs.declared.step.Step.the-variants.{SendPayload, TakeAnswer}
+use Rattle.host_flow.specs.declared.step.Step.the-variants.{SendPayload, TakeAnswer, Over}
 use Rattle.host_flow.specs.declared.step.Progress.{Progress}
 use Rattle.host_flow.specs.declared.step.Moved.{Moved}
 use Rattle.host_flow.specs.State.{State, state}
+use Rattle.host_flow.specs.Flow.{expected}
 use Rattle.host_flow.specs.Host.{host}
 
 abbrev pub progress : Step → (reason : ℕ) → Progress
@@ -40,3 +44,9 @@ pub record AnswerTaken (size place reason : ℕ) (input : List ℕ) (i : ℕ) (a
 pub record CrcSent (step : Step) (size reason : ℕ) (answer : List ℕ) (j : ℕ) (old : List ℕ) (moved : Moved) (output : List ℕ) : Type 0 where
   pub is : (opcode : ℕ) (payload : List ℕ) → awaited (lent opcode payload answer) ≡ size →
       Sent host (state step reason (lent opcode payload answer)) j old (moved .count) (state (moved .step) (moved .reason) (lent opcode payload answer)) output
+
+-- the next byte was looked at, whatever is lent
+pub record Looked (reason byte : ℕ) (moved : Moved) : Type 0 where
+  pub over : moved .step ≡ Over
+  pub is : (c : Lent) → state (moved .step) (moved .reason) c ≡ expected reason c stx byte Over
+  pub count-is : moved .count ≡ cond (eqb byte stx) 0 1

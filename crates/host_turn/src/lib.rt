@@ -2,6 +2,7 @@
 ghost use mathlib.Core.Path.{_≡_};
 ghost use Prim.Native.Nat.{_<_};
 ghost use lib.ListN.{length};
+ghost use Rattle.host_flow.specs.Gives.{Looked};
 ghost use Rattle.host_flow.specs.Ask.{FitsTaking, FitsSending, TakenSo, SentSo};
 use crate::answer::send_crc;
 use crate::answer::send_crc_high;
@@ -18,7 +19,9 @@ use host_flow::ask::Sending;
 use host_flow::ask::Taking;
 use host_flow::step::Moved;
 use host_flow::step::Progress;
+use host_flow::step::Step;
 use host_flow::step::to;
+use wire::line::STX;
 
 pub mod answer;
 pub mod byte;
@@ -88,4 +91,18 @@ pub fn send(
         Sending::Crc => send_crc(awaited, reason, answer, output, j),
         Sending::CrcHigh => send_crc_high(awaited, reason, answer, output, j),
     }
+}
+
+// Looks at the byte that comes where the next greeting is awaited. Its 02 stays untaken.
+pub fn look(reason: u32, byte: u8) -> Moved
+    ensures { λ r. ⌜ Looked reason byte r ⌝ }
+{
+    if byte == STX {
+        return Moved {
+            step: Step::Over,
+            reason: reason,
+            count: 0,
+        };
+    }
+    one(took_awaited(STX, Step::Over, reason, byte))
 }

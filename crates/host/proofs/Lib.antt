@@ -1,0 +1,4 @@
+pub mod Turns
+pub mod Calls
+pub mod Reached
+pub mod Cuts
