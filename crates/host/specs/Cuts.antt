@@ -1,4 +1,4 @@
--- Cuts of the device's bytes change no outcome of a host (rules, 7.7): the claim about a whole list of calls, for every command, every
+-- Cuts of the device's bytes change no outcome of a host (rules, 15.7): the claim about a whole list of calls, for every command, every
 -- stream of bytes and every list of calls, the refused ones among them. Its lines are those of demand 3, stated in machine's Reach and
 -- SessionClaim over any session; "code runs" there is that the command is over.
 -- Assumes nothing.

@@ -1,5 +1,5 @@
 -- The host's session: a call on a record, the device's bytes, room for the host's own, and what is lent. It is refused with 71, 72 or 4
--- (rules, 7.2 and 7.6).
+-- (rules, 15.2 and 15.6).
 -- Assumes nothing.
 use Prim.Native.Nat.{ℕ}
 use mathlib.Core.List.{List}

@@ -1,3 +1,4 @@
 pub mod Sounds
 pub mod Laws
 pub mod Asks
+pub mod Figures

@@ -1,4 +1,4 @@
--- A fresh host (rules, 7.1): it starts at the flow's first step with reason 0.
+-- A fresh host (rules, 15.1): it starts at the flow's first step with reason 0.
 -- Assumes nothing.
 use Prim.Native.Nat.{ℕ}
 use Rattle.machine.specs.declared.Record.{Record}

@@ -1,4 +1,4 @@
--- The host as a machine (rules, 7.4): the next greeting's 02 is shown and left untaken.
+-- The host as a machine (rules, 15.4): the next greeting's 02 is shown and left untaken.
 -- Assumes nothing.
 use Prim.Native.Nat.{ℕ}
 use mathlib.Core.Bool.{Bool, true, false, _&&_}

@@ -7,3 +7,4 @@ pub mod Sound
 pub mod Stays
 pub mod Gives
 pub mod Ask
+pub mod Figures

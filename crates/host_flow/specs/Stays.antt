@@ -1,4 +1,4 @@
--- What is lent to a host stays, but for the bytes of the answer (rules, 7.5).
+-- What is lent to a host stays, but for the bytes of the answer (rules, 15.5).
 -- Assumes nothing.
 use Prim.Native.Nat.{ℕ}
 use mathlib.Core.Path.{_≡_}

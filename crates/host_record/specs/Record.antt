@@ -1,4 +1,4 @@
--- The host's record, and which ones are unsound (rules, 7.6). Numbers that a phase does not use are ignored when a record comes in, but for
+-- The host's record, and which ones are unsound (rules, 15.6). Numbers that a phase does not use are ignored when a record comes in, but for
 -- the place. They are 0 in every record that an accepted call hands out.
 -- Assumes nothing.
 use Prim.Native.Nat.{ℕ}

@@ -1,4 +1,4 @@
--- A look: a symbol that the last action leaves in the stream (rules, 7.4: the next greeting's 02 is shown and left untaken).
+-- A look: a symbol that the last action leaves in the stream (rules, 15.4: the next greeting's 02 is shown and left untaken).
 -- Assumes nothing.
 use Prim.Native.Nat.{ℕ}
 use mathlib.Core.Path.{_≡_}
