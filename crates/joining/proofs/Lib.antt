@@ -1,0 +1,3 @@
+pub mod Goings
+pub mod Talks
+pub mod Echoes
