@@ -1,3 +1,5 @@
 pub mod Goes
 pub mod Talk
 pub mod Closing
+pub mod Joint
+pub mod Schedules
