@@ -3,3 +3,7 @@ pub mod Talks
 pub mod Echoes
 pub mod Beginnings
 pub mod Joints
+pub mod Work
+pub mod Rounds
+pub mod Diligences
+pub mod Briefs

@@ -3,3 +3,5 @@ pub mod Talk
 pub mod Closing
 pub mod Joint
 pub mod Schedules
+pub mod Rounds
+pub mod Diligence
