@@ -7,3 +7,5 @@ pub mod Work
 pub mod Rounds
 pub mod Diligences
 pub mod Briefs
+pub mod Lists
+pub mod CleanLines

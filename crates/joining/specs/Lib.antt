@@ -5,3 +5,6 @@ pub mod Joint
 pub mod Schedules
 pub mod Rounds
 pub mod Diligence
+pub mod Sides
+pub mod Lists
+pub mod CleanLine
