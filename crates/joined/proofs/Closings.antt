@@ -1,0 +1,85 @@
+-- What the host and the device say to each other in turn closes, alone; and so every schedule keeps to it.
+-- Assumes nothing.
+use Prim.Native.Nat.{ℕ}
+use native.Mathlib.Omega.{arith}
+use native.Mathlib.Nat.{add-zero}
+use mathlib.Core.Path.{_≡_, refl, sym, ap, _∙_}
+use mathlib.Core.List.{List, [], _++_, append-nil}
+use Rattle.memory.specs.Memories.{Memories}
+use Rattle.machine.specs.Outcome.{Outcome, halt, join}
+use Rattle.machine.specs.Uncut.{uncut}
+use Rattle.machine.specs.Lawful.{Any, Lawful}
+use Rattle.machine.proofs.Actions.{uncut-run, uncut-short}
+use Rattle.uartboot_flow.specs.declared.step.Step.the-variants.{Header}
+use Rattle.uartboot_flow.specs.declared.step.HeaderStep.the-variants.{TakeSoh}
+use Rattle.uartboot_flow.specs.State as device-state
+use Rattle.uartboot_flow.specs.Flow as device-flow
+use Rattle.uartboot_flow.specs.Due as device-due
+use Rattle.uartboot_flow.specs.Device.{device}
+use Rattle.uartboot_flow.specs.Fresh as device-fresh
+use Rattle.uartboot_flow.specs.Sound as device-sound
+use Rattle.uartboot_flow.proofs.Laws as device-laws
+use Rattle.joining.specs.Talk.{Talk}
+use Rattle.joining.specs.Closing.{ClosesAlone}
+use Rattle.joining.proofs.Goings.{went, goes-sound}
+use Rattle.joining.proofs.Talks.{talk-left, talk-used, talk-left-is, talk-right-is, talk-closes}
+use Rattle.joining.proofs.Joints.{every-schedule}
+use Rattle.joining.proofs.Briefs.{does-brief}
+use Rattle.joining.proofs.Diligences.{diligent}
+use Rattle.host_command.specs.Exchange.{Lent}
+use Rattle.host_command.specs.Refusal.{refusalOf}
+use Rattle.host_flow.specs.declared.step.Step.the-variants.{Over}
+use Rattle.host_flow.specs.State.{State, state}
+use Rattle.host_flow.specs.Flow.{does}
+use Rattle.host_flow.specs.Due.{due}
+use Rattle.host_flow.specs.Host.{host}
+use Rattle.host_flow.specs.Fresh.{fresh}
+use Rattle.host_flow.specs.Sound.{Sound}
+use Rattle.host_flow.proofs.Laws.{lawful}
+use Rattle.joined.specs.Traffic.{greetingBytes}
+use Rattle.joined.specs.Accepted.{Fits}
+use Rattle.joined.specs.Closed.{Closed}
+use Rattle.joined.proofs.DeviceRuns.{greets}
+
+pub host-law : Lawful host Any Sound
+host-law = lawful Any
+
+pub device-law : Lawful device Any device-sound.Sound
+device-law = device-laws.lawful Any
+
+-- the host that is over, and the device that waits for 01, do nothing more
+pub over-is : (reason : ℕ) (c : Lent) (x : List ℕ) → uncut host (state Over reason c) x ≡ halt (state Over reason c)
+over-is reason c x = uncut-run host host-law (state Over reason c) x refl
+
+pub waits-for : (reason : ℕ) (m : Memories) → uncut device (device-state.state (Header TakeSoh) reason m) [] ≡ halt (device-state.state (Header TakeSoh) reason m)
+waits-for reason m = uncut-short device device-law (device-state.state (Header TakeSoh) reason m) [] 1 refl (omega arith)
+
+-- after the device's greeting they talk, and at the end neither says more
+pub record Whole (c : Lent) (m : Memories) (used h left : List ℕ) (host-end : State) (device-end : device-state.State) : Type 0 where
+  pub said : List ℕ
+  pub ended : State
+  pub talk : Talk host device (fresh c) (device-state.state (Header TakeSoh) 0 m) greetingBytes used h said ended device-end left
+  pub quiet : Sound ended → (x : List ℕ) → uncut host ended (left ++ x) ≡ halt host-end
+  pub silent : uncut device device-end [] ≡ halt device-end
+
+pub closed : (c : Lent) (m : Memories) {used h left : List ℕ} {host-end : State} {device-end : device-state.State} → refusalOf c ≡ 0 → Fits m →
+    Whole c m used h left host-end device-end → Closed c m h used left host-end device-end
+closed c m {used} {h} {left} {device-end} e fits w =
+    let r = used ++ left in
+    let gs : Sound (fresh c) = record { accepted = e; step-sound = omega arith } in
+    let gt : device-sound.Sound (device-fresh.fresh m) = record { fitting = fits; step-sound = omega arith } in
+    let ends-sound : Sound (w .ended) = goes-sound host host-law (talk-left host device (w .talk)) gs in
+    let quiet : (x : List ℕ) → uncut host (w .ended) (left ++ x) .replies ≡ [] = λ x. ap (λ (o : Outcome State). o .replies) (w .quiet ends-sound x) in
+    let all : greetingBytes ++ w .said ≡ used ++ left = talk-used host device (w .talk) in
+    let last : uncut host (w .ended) left ≡ halt _ = ap (uncut host (w .ended)) (sym (append-nil left)) ∙ w .quiet ends-sound [] in
+    let closes : ClosesAlone host device (fresh c) (device-fresh.fresh m) h (used ++ left) =
+    rw (← all) (talk-closes host device host-law device-law (greets 0 m) (w .talk) gs gt quiet (w .silent)) in
+    record {
+      host-is = ap (uncut host (fresh c)) (sym all) ∙ talk-left-is host device host-law device-law (greets 0 m) (w .talk) gs gt quiet (w .silent)
+          ∙ ap (join (went used h (w .ended))) last ∙ simp (append-nil, add-zero);
+      device-is = talk-right-is host device host-law device-law (greets 0 m) (w .talk) gs gt quiet (w .silent)
+          ∙ ap (λ (l : List ℕ). went h l device-end) all;
+      closes = closes;
+      schedules = every-schedule host device host-law device-law (fresh c) gs (device-fresh.fresh m) gt h r closes;
+      diligent = diligent host device host-law device-law (fresh c) gs (device-fresh.fresh m) gt h r (does-brief does due) (does-brief device-flow.does device-due.due) closes;
+    }

@@ -1,0 +1,6 @@
+pub mod Pairs
+pub mod HostRuns
+pub mod DeviceRuns
+pub mod Effects
+pub mod Closings
+pub mod Lines

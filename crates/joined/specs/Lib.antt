@@ -1,0 +1,4 @@
+pub mod Traffic
+pub mod Accepted
+pub mod Closed
+pub mod Line

@@ -1,0 +1,1 @@
+// The host joined to uartboot by a line. It has no code of its own.
