@@ -4,3 +4,4 @@ pub mod DeviceRuns
 pub mod Effects
 pub mod Closings
 pub mod Lines
+pub mod Refusals

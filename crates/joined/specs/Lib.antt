@@ -2,3 +2,4 @@ pub mod Traffic
 pub mod Accepted
 pub mod Closed
 pub mod Line
+pub mod Refused

@@ -1,0 +1,159 @@
+-- The host's definition and the device's close on each other too where the session refuses the command.
+-- Assumes nothing.
+use Prim.Native.Nat.{ℕ, _+_, _≤_, _<_}
+use native.Mathlib.Omega.{arith}
+use mathlib.Core.Path.{_≡_, refl, ap, _∙_}
+use mathlib.Core.Bool.{true, not, false≢true}
+use mathlib.Core.List.{List, [], _∷_, _++_, append-nil}
+use lib.Dec.{eqb, ltb}
+use lib.ListN.{length}
+use borrow.Author.Tests.{eqb-true, eqb-false, ltb-true, ltb-false, le-leb, le-ltb}
+use borrow.Table.Steps.{cases}
+use Rattle.wire.specs.Line.{nak}
+use Rattle.wire.specs.Range.{liesIn}
+use Rattle.wire.specs.declared.range.Place.{Place}
+use Rattle.wire.specs.declared.range.Place.the-variants.{Inside, Outside}
+use Rattle.wire.specs.Unit.{ramBase, ramPlace, flashPlace}
+use Rattle.wire.proofs.Lengths.{work-bounds}
+use Rattle.wire.proofs.Tests.{in-cond}
+use Rattle.memory.specs.Memories.{Memories}
+use Rattle.opcodes.specs.declared.Opcode.{Opcode}
+use Rattle.opcodes.specs.declared.Opcode.the-variants.{Write, Read, Copy, Erase, Run, ReadQspi, Version, ChipErase, DirectWrite}
+use Rattle.opcodes.specs.Opcode.{opcodeNumber, hasLength}
+use Rattle.command.specs.declared.check.Checks.{Checks}
+use Rattle.command.specs.Check.{wrongEnd, judged}
+use Rattle.command_execution.specs.declared.Ending.{Ending}
+use Rattle.command_execution.specs.declared.Ending.the-variants as ending
+use Rattle.command_execution.specs.Execution.{verifyDiffers}
+use Rattle.joining.specs.Talk.{over, round, hears}
+use Rattle.joining.proofs.Goings.{goes-on}
+use Rattle.uartboot_flow.specs.Flow.{longPayload}
+use Rattle.uartboot_flow.specs.Device.{device}
+use Rattle.host_command.specs.declared.Follows.{Follows}
+use Rattle.host_command.specs.declared.Follows.the-variants.{Greets}
+use Rattle.host_command.specs.Exchange.{Lent, lent}
+use Rattle.host_flow.specs.declared.step.Step.the-variants.{Over}
+use Rattle.host_flow.specs.State.{state}
+use Rattle.host_flow.specs.Flow.{deviceRefused}
+use Rattle.joined.specs.Traffic.{greetingBytes, headerBytes}
+use Rattle.joined.specs.Accepted.{brought, against, effect, Fits, Passes}
+use Rattle.joined.specs.Refused.{HeaderRefused, payloadReasons, isAmong, PayloadRefused, Differs, NotVerified, Verdict, accepted, too-long, not-allowed, EveryVerdict}
+use Rattle.joined.specs.Refused as verdict
+use Rattle.joined.proofs.HostRuns as hosts
+use Rattle.joined.proofs.DeviceRuns as devices
+use Rattle.joined.proofs.Effects.{Ends, answering, running, silently, Ended, ends, differs, ended}
+use Rattle.joined.proofs.Closings.{over-is, waits-for, closed}
+use Rattle.joined.proofs.Lines.{Known, known, failing, talk-as, whole}
+
+pub header-refused : HeaderRefused
+header-refused opcode payload answer m e fits long =
+    let c = lent (opcodeNumber opcode) payload answer in
+    let k = known opcode payload answer e in
+    closed c m e fits (record {
+      said = _;
+      ended = state Over deviceRefused c;
+      talk =
+          round (hosts.at-header c) (goes-on device (devices.heads-long opcode m (length payload) (k .small) (k .has-length) long) (devices.refuses longPayload m))
+          (hears {front = nak ∷ []} {waiting = greetingBytes} (hosts.header-refused c) over);
+      quiet = λ g x. over-is deviceRefused c (greetingBytes ++ x);
+      silent = waits-for longPayload m;
+    })
+
+-- a command without payload passes its checks
+nothing-asked : (ram flash work answer : ℕ) → answer ≤ work → judged ram flash work (record { verify = 0; count = 1; address = record { 0 = ramBase }; ram = 0; offset = record { 0 = 0 }; flash = 0; answer = answer }) ≡ 0
+unfolding judged liesIn
+nothing-asked ram flash work answer h =
+    let in-ram : ramBase ≤ ramBase + ram = omega arith in
+    let in-flash : 0 ≤ 0 + flash = omega arith in
+    rw (le-leb ramBase (ramBase + ram) in-ram, le-leb 0 (0 + flash) in-flash, le-ltb work answer h) refl
+
+bare-passes : (opcode : Opcode) (m : Memories) → hasLength opcode 0 ≡ true → Fits m → against opcode [] m ≡ 0
+bare-passes Write m h fits = absurd (false≢true h)
+bare-passes Read m h fits = absurd (false≢true h)
+bare-passes Copy m h fits = absurd (false≢true h)
+bare-passes Erase m h fits = absurd (false≢true h)
+bare-passes Run m h fits = absurd (false≢true h)
+bare-passes ReadQspi m h fits = absurd (false≢true h)
+bare-passes Version m h fits = nothing-asked _ _ _ 7 (omega (arith, work-bounds (length (m .work)) (fits .work-length) .0))
+bare-passes ChipErase m h fits = nothing-asked _ _ _ 0 (omega arith)
+bare-passes DirectWrite m h fits = absurd (false≢true h)
+
+-- a reason against a payload is one of these
+abbrev Reason : ℕ → Type 0
+Reason n = (n ≡ 0 → ⊥) → isAmong payloadReasons n ≡ true
+
+end-reason : (first : Place) → Reason (wrongEnd first)
+end-reason Outside z = refl
+end-reason (Inside place) z = refl
+
+reasons : (ram flash work : ℕ) (c : Checks) → Reason (judged ram flash work c)
+unfolding judged
+reasons ram flash work c =
+    in-cond Reason (ltb 1 (c .verify)) _ _ (λ t z. refl) (λ t.
+    in-cond Reason (eqb (c .count) 0) _ _ (λ t z. refl) (λ t.
+    in-cond Reason (not (liesIn (c .address .0) (c .ram) ramBase ram)) _ _ (λ t. end-reason (ramPlace (c .address) 1 ram)) (λ t.
+    in-cond Reason (not (liesIn (c .offset .0) (c .flash) 0 flash)) _ _ (λ t. end-reason (flashPlace (c .offset) 1 flash)) (λ t.
+    in-cond Reason (ltb work (c .answer)) _ _ (λ t z. refl) (λ t z. absurd (z refl))))))
+
+pub payload-refused : PayloadRefused
+payload-refused opcode [] answer m e fits short fails = absurd (fails (bare-passes opcode m (known opcode [] answer e .has-length) fits))
+payload-refused opcode (b ∷ bs) answer m e fits short fails =
+    let payload = b ∷ bs in
+    let c = lent (opcodeNumber opcode) payload answer in
+    let k = known opcode payload answer e in
+    let some : 0 < length payload = omega arith in
+    let talk =
+    round (hosts.at-header c)
+    (goes-on device (devices.heads-on opcode m (length payload) (k .small) (k .has-length) short) (devices.at-first opcode m (length payload) some))
+    (round (hosts.at-payload c some) (devices.at-payload-refused opcode m payload some short fails)
+    (hears {front = nak ∷ []} {waiting = greetingBytes} (hosts.payload-refused c) over)) in
+    record {
+      closed = closed c m e fits (record {
+        said = _;
+        ended = state Over deviceRefused c;
+        talk = talk-as (ap (λ (l : List ℕ). headerBytes opcode payload ++ l) (append-nil payload)) talk;
+        quiet = λ g x. over-is deviceRefused c (greetingBytes ++ x);
+        silent = waits-for (against opcode payload m) (brought payload m);
+      });
+      reason-is = reasons _ _ _ _ fails;
+    }
+
+never-fails : {f : Follows} {e : Ending} {after : Memories} (why : ℕ) → Ends f e after → e ≡ ending.Failed why → ⊥
+never-fails why (answering some room small) e = let z : _≡_ {A = ℕ} 0 1 = cc in omega arith
+never-fails why running e = let z : _≡_ {A = ℕ} 0 1 = cc in omega arith
+never-fails why silently e = let z : _≡_ {A = ℕ} 0 1 = cc in omega arith
+
+pub not-verified : NotVerified
+not-verified opcode payload answer m e ok is = go (ended opcode payload m ok)
+  where
+    c : Lent
+    c = lent (opcodeNumber opcode) payload answer
+
+    k : Known opcode payload answer
+    k = known opcode payload answer e
+
+    go : Ended opcode payload m (effect opcode payload m) → Differs opcode payload answer m
+    go (ends x) = absurd (never-fails verifyDiffers x is)
+    go (differs d) =
+        record {
+          closed = closed c m e (ok .fitting) (whole opcode answer m payload k ok Greets (k .follows-is ∙ d .greets) (failing opcode c verifyDiffers (effect opcode payload m) is));
+          same-ram = d .same-ram;
+          same-work = d .same-work;
+        }
+
+pub every-verdict : EveryVerdict
+every-verdict opcode payload answer m e fits =
+    cases (ltb (length (m .work)) (length payload)) (λ t. too-long (ltb-true _ _ t)) (λ f. fitted (ltb-false _ _ f))
+  where
+    fitted : length payload ≤ length (m .work) → Verdict opcode payload m
+    fitted short = cases (eqb (against opcode payload m) 0) (λ t. passed (eqb-true _ _ t)) (λ f. not-allowed short (eqb-false _ _ f))
+      where
+        passed : against opcode payload m ≡ 0 → Verdict opcode payload m
+        passed z = go (ended opcode payload m ok)
+          where
+            ok : Passes opcode payload m
+            ok = record { fitting = fits; has-length = known opcode payload answer e .has-length; in-work = short; passes = z }
+
+            go : Ended opcode payload m (effect opcode payload m) → Verdict opcode payload m
+            go (ends x) = accepted (record { good = ok; verified = never-fails verifyDiffers x })
+            go (differs d) = verdict.differs ok (d .fails)
