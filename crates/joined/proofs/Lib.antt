@@ -5,3 +5,4 @@ pub mod Effects
 pub mod Closings
 pub mod Lines
 pub mod Refusals
+pub mod Figures

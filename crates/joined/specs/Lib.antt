@@ -3,3 +3,4 @@ pub mod Accepted
 pub mod Closed
 pub mod Line
 pub mod Refused
+pub mod Figures

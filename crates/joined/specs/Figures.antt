@@ -1,0 +1,72 @@
+-- Figures over the joined line, byte by byte: Version, a Write of two bytes, and a Read of none, which is refused (rules, 7.6).
+-- Assumes nothing.
+use Prim.Native.Nat.{ℕ}
+use mathlib.Core.Path.{_≡_}
+use mathlib.Core.List.{List, [], _∷_, _++_}
+use lib.ListN.{length, replicate}
+use Rattle.memory.specs.Memories.{Memories, memories}
+use Rattle.machine.specs.Uncut.{uncut}
+use Rattle.opcodes.specs.declared.Opcode.the-variants.{Write, Version}
+use Rattle.uartboot_flow.specs.declared.step.Step.the-variants.{Header}
+use Rattle.uartboot_flow.specs.declared.step.HeaderStep.the-variants.{TakeSoh}
+use Rattle.uartboot_flow.specs.State as device-state
+use Rattle.uartboot_flow.specs.Device.{device}
+use Rattle.uartboot_flow.specs.Fresh as device-fresh
+use Rattle.host_command.specs.Exchange.{Lent, lent}
+use Rattle.host_command.specs.Refusal.{refusalOf}
+use Rattle.host_flow.specs.declared.step.Step.the-variants.{Over}
+use Rattle.host_flow.specs.State.{State, state}
+use Rattle.host_flow.specs.Host.{host}
+use Rattle.host_flow.specs.Fresh.{fresh}
+use Rattle.joined.specs.Accepted.{Accepted}
+
+-- what each side does when it is fed the other's bytes
+pub record Figure (c : Lent) (m : Memories) (said heard : List ℕ) (taken : ℕ) (host-end : State) (device-end : device-state.State) : Type 0 where
+  pub host-is : uncut host (fresh c) heard ≡ record { replies = said; taken = taken; final = host-end }
+  pub device-is : uncut device (device-fresh.fresh m) said ≡ record { replies = heard; taken = length said; final = device-end }
+
+-- RAM, flash and work buffer of a few bytes
+abbrev pub small : (ram work : List ℕ) → Memories
+small ram work = memories ram (replicate 4 0xFF) (work ++ replicate 9 0x00)
+
+-- the 7 characters 0.0.0.3, in an answer buffer of 8 bytes
+abbrev pub versionText : List ℕ
+versionText = 0x30 ∷ 0x2E ∷ 0x30 ∷ 0x2E ∷ 0x30 ∷ 0x2E ∷ 0x33 ∷ []
+
+abbrev pub VersionFigure : Type 0
+VersionFigure =
+    Figure (lent 0x0B [] (replicate 8 0xEE)) (small (replicate 4 0x00) (replicate 7 0x00))
+    (0x01 ∷ 0x0B ∷ 0x00 ∷ 0x00 ∷ 0x06 ∷ 0x6E ∷ 0x62 ∷ [])
+    (0x02 ∷ 0x01 ∷ 0x00 ∷ 0x03 ∷ 0x06 ∷ 0x07 ∷ 0x00 ∷ (versionText ++ (0x06 ∷ 0x02 ∷ 0x01 ∷ 0x00 ∷ 0x03 ∷ []))) 15
+    (state Over 0 (lent 0x0B [] (versionText ++ (0xEE ∷ [])))) (device-state.state (Header TakeSoh) 0 (small (replicate 4 0x00) versionText))
+
+-- AA BB to RAM's first bytes
+abbrev pub writePayload : List ℕ
+writePayload = 0x00 ∷ 0x00 ∷ 0xFC ∷ 0x07 ∷ 0xAA ∷ 0xBB ∷ []
+
+abbrev pub WriteFigure : Type 0
+WriteFigure =
+    Figure (lent 0x01 writePayload []) (small (replicate 4 0x00) (replicate 6 0x00))
+    (0x01 ∷ 0x01 ∷ 0x06 ∷ 0x00 ∷ (writePayload ++ (0x06 ∷ [])))
+    (0x02 ∷ 0x01 ∷ 0x00 ∷ 0x03 ∷ 0x06 ∷ 0x06 ∷ 0xFA ∷ 0xBF ∷ 0x02 ∷ 0x01 ∷ 0x00 ∷ 0x03 ∷ []) 8
+    (state Over 0 (lent 0x01 writePayload [])) (device-state.state (Header TakeSoh) 0 (small (0xAA ∷ 0xBB ∷ 0x00 ∷ 0x00 ∷ []) writePayload))
+
+abbrev pub readPayload : List ℕ
+readPayload = 0x00 ∷ 0x00 ∷ 0xFC ∷ 0x07 ∷ 0x00 ∷ 0x00 ∷ []
+
+abbrev pub ReadFigure : Type 0
+ReadFigure =
+    Figure (lent 0x02 readPayload []) (small (replicate 4 0x00) (replicate 6 0x00))
+    (0x01 ∷ 0x02 ∷ 0x06 ∷ 0x00 ∷ readPayload)
+    (0x02 ∷ 0x01 ∷ 0x00 ∷ 0x03 ∷ 0x06 ∷ 0x15 ∷ 0x02 ∷ 0x01 ∷ 0x00 ∷ 0x03 ∷ []) 6
+    (state Over 73 (lent 0x02 readPayload [])) (device-state.state (Header TakeSoh) 15 (small (replicate 4 0x00) readPayload))
+
+-- memories of accepted lengths, and commands that a host and a session with them accept
+abbrev pub sample : Memories
+sample = memories (replicate 2 0x00) (replicate 4096 0xFF) (replicate 64 0x00)
+
+pub record SomeAccepted : Type 0 where
+  pub version-accepted : Accepted Version [] sample
+  pub version-lent : refusalOf (lent 0x0B [] (replicate 7 0x00)) ≡ 0
+  pub write-accepted : Accepted Write writePayload sample
+  pub write-lent : refusalOf (lent 0x01 writePayload []) ≡ 0
