@@ -19,13 +19,14 @@ use Rattle.uartboot_flow.specs.Device.{device}
 use Rattle.uartboot_flow.specs.Fresh as device-fresh
 use Rattle.uartboot_flow.specs.Sound as device-sound
 use Rattle.uartboot_flow.proofs.Laws as device-laws
+use Rattle.uartboot.specs.Session.{uartboot}
+use Rattle.uartboot.proofs.Faith as device-faith
 use Rattle.joining.specs.Talk.{Talk}
 use Rattle.joining.specs.Closing.{ClosesAlone}
 use Rattle.joining.proofs.Goings.{went, goes-sound}
 use Rattle.joining.proofs.Talks.{talk-left, talk-used, talk-left-is, talk-right-is, talk-closes}
-use Rattle.joining.proofs.Joints.{every-schedule}
 use Rattle.joining.proofs.Briefs.{does-brief}
-use Rattle.joining.proofs.Diligences.{diligent}
+use Rattle.joining.proofs.CleanLines.{clean-line}
 use Rattle.host_command.specs.Exchange.{Lent}
 use Rattle.host_command.specs.Refusal.{refusalOf}
 use Rattle.host_flow.specs.declared.step.Step.the-variants.{Over}
@@ -36,6 +37,8 @@ use Rattle.host_flow.specs.Host.{host}
 use Rattle.host_flow.specs.Fresh.{fresh}
 use Rattle.host_flow.specs.Sound.{Sound}
 use Rattle.host_flow.proofs.Laws.{lawful}
+use Rattle.host.specs.Session.{hostSession}
+use Rattle.host.proofs.Cuts as host-faith
 use Rattle.joined.specs.Traffic.{greetingBytes}
 use Rattle.joined.specs.Accepted.{Fits}
 use Rattle.joined.specs.Closed.{Closed}
@@ -79,7 +82,6 @@ closed c m {used} {h} {left} {device-end} e fits w =
           ∙ ap (join (went used h (w .ended))) last ∙ simp (append-nil, add-zero);
       device-is = talk-right-is host device host-law device-law (greets 0 m) (w .talk) gs gt quiet (w .silent)
           ∙ ap (λ (l : List ℕ). went h l device-end) all;
-      closes = closes;
-      schedules = every-schedule host device host-law device-law (fresh c) gs (device-fresh.fresh m) gt h r closes;
-      diligent = diligent host device host-law device-law (fresh c) gs (device-fresh.fresh m) gt h r (does-brief does due) (does-brief device-flow.does device-due.due) closes;
+      line = clean-line hostSession uartboot host-faith.faithful device-faith.faithful host-law device-law (does-brief does due) (does-brief device-flow.does device-due.due)
+          (fresh c) gs (device-fresh.fresh m) gt h r closes;
     }

@@ -1,7 +1,7 @@
 -- The host and uartboot joined by a clean line, both fresh: what they say to each other, and where they end (rules, 7.6).
 -- Assumes nothing.
-use mathlib.Core.Path.{_≡_}
 use Prim.Native.Nat.{ℕ}
+use mathlib.Core.Path.{_≡_}
 use mathlib.Core.List.{List, _++_}
 use lib.ListN.{length}
 use Rattle.memory.specs.Memories.{Memories}
@@ -9,19 +9,17 @@ use Rattle.machine.specs.Uncut.{uncut}
 use Rattle.uartboot_flow.specs.State as device-state
 use Rattle.uartboot_flow.specs.Device.{device}
 use Rattle.uartboot_flow.specs.Fresh as device-fresh
-use Rattle.joining.specs.Closing.{ClosesAlone}
-use Rattle.joining.specs.Schedules.{EverySchedule}
-use Rattle.joining.specs.Diligence.{Diligent}
+use Rattle.uartboot.specs.Session.{uartboot}
+use Rattle.joining.specs.CleanLine.{CleanLine}
 use Rattle.host_command.specs.Exchange.{Lent}
 use Rattle.host_flow.specs.State.{State}
 use Rattle.host_flow.specs.Host.{host}
 use Rattle.host_flow.specs.Fresh.{fresh}
+use Rattle.host.specs.Session.{hostSession}
 
 -- the host sends h, takes `used` and leaves `left`, which is all that the device sends; and both end so
 pub record Closed (c : Lent) (m : Memories) (h used left : List ℕ) (host-end : State) (device-end : device-state.State) : Type 0 where
   pub host-is : uncut host (fresh c) (used ++ left) ≡ record { replies = h; taken = length used; final = host-end }
   pub device-is : uncut device (device-fresh.fresh m) h ≡ record { replies = used ++ left; taken = length h; final = device-end }
-  -- nothing else closes, every schedule keeps to these bytes, and a diligent one ends there
-  pub closes : ClosesAlone host device (fresh c) (device-fresh.fresh m) h (used ++ left)
-  pub schedules : EverySchedule host device (fresh c) (device-fresh.fresh m) h (used ++ left)
-  pub diligent : Diligent host device (fresh c) (device-fresh.fresh m) h (used ++ left)
+  -- nothing else closes; every schedule, and every list of calls on both sessions, keeps to these bytes, and a diligent one ends there
+  pub line : CleanLine hostSession uartboot (fresh c) (device-fresh.fresh m) h (used ++ left)
