@@ -1,14 +1,14 @@
 -- How a command that passes its checks ends: as the host awaits, or with flash that differs.
 -- Assumes nothing.
-use Prim.Native.Nat.{ℕ, _-_, _≤_, _<_}
+use Prim.Native.Nat.{ℕ, _+_, _-_, _≤_, _<_}
 use native.Mathlib.Omega.{arith}
 use mathlib.Core.Path.{_≡_, refl, sym, ap, _∙_}
 use mathlib.Core.Bool.{Bool, true, false, cond, not, _||_}
 use mathlib.Core.List.{List}
 use lib.Dec.{eqb}
 use lib.ListN.{length, drop, getD, length-drop}
-use lib.Seq.{drop-append-le, take-append-le}
-use borrow.Author.Tests.{eqb-true}
+use lib.Seq.{drop-append-le, take-append-le, take-at}
+use borrow.Author.Tests.{eqb-true, ltb-true}
 use Rattle.wire.specs.declared.unit.RamAddress.{RamAddress}
 use Rattle.wire.proofs.Lengths.{work-bounds}
 use Rattle.numbers.specs.Number.{numberAt}
@@ -41,7 +41,8 @@ pub data Ends : Follows → Ending → Memories → Type 0 where
 -- flash differs after the store
 pub record Differing (opcode : Opcode) (payload : List ℕ) (m : Memories) (e : Executed) : Type 0 where
   pub fails : e .ending ≡ ending.Failed verifyDiffers
-  pub greets : followsCommand opcode payload ≡ Greets
+  pub direct-write : opcode ≡ DirectWrite
+  pub store-stays : e .after .flash ≡ changedFrom (offsetAt 1 payload .0) (burnt (drop (dataPlace DirectWrite) payload)) (m .flash)
   pub same-ram : e .after .ram ≡ m .ram
   pub same-work : e .after .work ≡ laid payload (m .work)
 
@@ -49,13 +50,17 @@ pub data Ended (opcode : Opcode) (payload : List ℕ) (m : Memories) (e : Execut
   ends : Ends (followsCommand opcode payload) (e .ending) (e .after) → Ended opcode payload m e
   differs : Differing opcode payload m e → Ended opcode payload m e
 
--- a number in the payload is in the work buffer
-number-brought : (payload work : List ℕ) → length payload ≡ 6 → numberAt 2 (laid payload work) 4 ≡ numberAt 2 payload 4
+-- a number in the payload is in the work buffer, and so are its data
+number-brought : (width place : ℕ) (payload work : List ℕ) → place + width ≤ length payload → numberAt width (laid payload work) place ≡ numberAt width payload place
 unfolding numberAt
-number-brought payload work e =
-    let four : 4 ≤ length payload = omega arith in
-    let rest : 2 ≤ length (drop 4 payload) = rw (length-drop 4 payload, e) (omega arith) in
-    rw (drop-append-le 4 payload (drop (length payload) work) four, take-append-le 2 (drop 4 payload) (drop (length payload) work) rest) refl
+number-brought width place payload work h =
+    let front : place ≤ length payload = omega arith in
+    let rest : width ≤ length (drop place payload) = rw (length-drop place payload) (omega arith) in
+    rw (drop-append-le place payload (drop (length payload) work) front, take-append-le width (drop place payload) (drop (length payload) work) rest) refl
+
+data-brought : (place : ℕ) (payload work : List ℕ) → place ≤ length payload → partOf place (length payload - place) (laid payload work) ≡ drop place payload
+data-brought place payload work h =
+    rw (drop-append-le place payload (drop (length payload) work) h, take-at (drop place payload) (drop (length payload) work) (length payload - place) (length-drop place payload)) refl
 
 module _ (opcode : Opcode) (payload : List ℕ) (m : Memories) (ok : Passes opcode payload m) where
   abbrev m′ : Memories
@@ -94,7 +99,7 @@ module _ (opcode : Opcode) (payload : List ℕ) (m : Memories) (ok : Passes opco
 pub ended : (opcode : Opcode) (payload : List ℕ) (m : Memories) → Passes opcode payload m → Ended opcode payload m (effect opcode payload m)
 ended Write payload m ok = silent-end Write payload m ok (sym (end-is Write payload m ok)) refl
 ended Read payload m ok =
-    let k : numberAt 2 (laid payload (m .work)) 4 ≡ numberAt 2 payload 4 = number-brought payload (m .work) (eqb-true (length payload) 6 (ok .has-length)) in
+    let k : numberAt 2 (laid payload (m .work)) 4 ≡ numberAt 2 payload 4 = number-brought 2 4 payload (m .work) (omega (arith, eqb-true (length payload) 6 (ok .has-length))) in
     let place = placeOf (addressAt 0 (laid payload (m .work))) in
     let count = part-length place (numberAt 2 (laid payload (m .work)) 4) (m .ram) (passed Read payload m ok .in-ram) in
     answers-end Read payload m ok (numberAt 2 payload 4) (sym (end-is Read payload m ok) ∙ ap ending.Answers (count ∙ k)) refl
@@ -102,7 +107,7 @@ ended Copy payload m ok = silent-end Copy payload m ok (sym (end-is Copy payload
 ended Erase payload m ok = silent-end Erase payload m ok (sym (end-is Erase payload m ok)) refl
 ended Run payload m ok = ends (rw (← end-is Run payload m ok) running)
 ended ReadQspi payload m ok =
-    let k : numberAt 2 (laid payload (m .work)) 4 ≡ numberAt 2 payload 4 = number-brought payload (m .work) (eqb-true (length payload) 6 (ok .has-length)) in
+    let k : numberAt 2 (laid payload (m .work)) 4 ≡ numberAt 2 payload 4 = number-brought 2 4 payload (m .work) (omega (arith, eqb-true (length payload) 6 (ok .has-length))) in
     let place = offsetAt 0 (laid payload (m .work)) .0 in
     let count = part-length place (numberAt 2 (laid payload (m .work)) 4) (m .flash) (passed ReadQspi payload m ok .in-flash) in
     answers-end ReadQspi payload m ok (numberAt 2 payload 4) (sym (end-is ReadQspi payload m ok) ∙ ap ending.Answers (count ∙ k)) refl
@@ -122,12 +127,18 @@ ended DirectWrite payload m ok = go holds refl
     holds : Bool
     holds = not (eqb (getD work 0 0) 1) || isFront bytes (drop offset (changedFrom offset (burnt bytes) (m .flash)))
 
+    stored : changedFrom offset (burnt bytes) (m .flash) ≡ changedFrom (offsetAt 1 payload .0) (burnt (drop (dataPlace DirectWrite) payload)) (m .flash)
+    stored =
+        let long : 5 < length payload = ltb-true 5 (length payload) (ok .has-length) in
+        rw (number-brought 4 1 payload (m .work) (omega arith), data-brought (dataPlace DirectWrite) payload (m .work) (omega arith)) refl
+
     go : (b : Bool) → holds ≡ b → Ended DirectWrite payload m (effect DirectWrite payload m)
     go true t = silent-end DirectWrite payload m ok (sym (end-is DirectWrite payload m ok) ∙ ap (λ (b : Bool). cond b ending.Silent (ending.Failed verifyDiffers)) t) refl
     go false t =
         differs (record {
           fails = sym (end-is DirectWrite payload m ok) ∙ ap (λ (b : Bool). cond b ending.Silent (ending.Failed verifyDiffers)) t;
-          greets = refl;
+          direct-write = refl;
+          store-stays = ap (λ (e : Executed). e .after .flash) (sym (done DirectWrite payload m ok)) ∙ stored;
           same-ram = ap (λ (e : Executed). e .after .ram) (sym (done DirectWrite payload m ok));
           same-work = ap (λ (e : Executed). e .after .work) (sym (done DirectWrite payload m ok));
         })

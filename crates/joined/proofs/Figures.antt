@@ -16,7 +16,7 @@ use Rattle.uartboot_flow.specs.Flow.{crc16}
 use Rattle.host_command.specs.Exchange.{exchangeOf}
 use Rattle.host_command.specs.Refusal.{refusalOf}
 use Rattle.host_flow.specs.Flow.{payloadCrc, answerCrc}
-use Rattle.joined.specs.Figures.{VersionFigure, WriteFigure, ReadFigure, SomeAccepted}
+use Rattle.joined.specs.Figures.{VersionFigure, WriteFigure, LongFigure, ReadFigure, DirectFigure, SomeAccepted}
 
 pub version-figure : VersionFigure
 unfolding drain feed uncut opcodeOf exchangeOf payloadCrc answerCrc crc16 executed judged liesIn placeIn numberAt crcOf after afterByte afterBits afterBit moved placed leaving
@@ -29,6 +29,14 @@ write-figure = record { host-is = refl; device-is = refl }
 pub read-figure : ReadFigure
 unfolding drain feed uncut opcodeOf exchangeOf payloadCrc answerCrc crc16 executed judged liesIn placeIn numberAt crcOf after afterByte afterBits afterBit moved placed leaving
 read-figure = record { host-is = refl; device-is = refl }
+
+pub long-figure : LongFigure
+unfolding drain feed uncut opcodeOf exchangeOf payloadCrc answerCrc crc16 executed judged liesIn placeIn numberAt crcOf after afterByte afterBits afterBit moved placed leaving
+long-figure = record { host-is = refl; device-is = refl }
+
+pub direct-figure : DirectFigure
+unfolding drain feed uncut opcodeOf exchangeOf payloadCrc answerCrc crc16 executed judged liesIn placeIn numberAt crcOf after afterByte afterBits afterBit moved placed leaving
+direct-figure = record { host-is = refl; device-is = refl }
 
 pub some-accepted : SomeAccepted
 unfolding exchangeOf opcodeOf refusalOf executed judged liesIn placeIn numberAt isBetween isFlashLength

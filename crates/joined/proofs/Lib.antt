@@ -5,4 +5,5 @@ pub mod Effects
 pub mod Closings
 pub mod Lines
 pub mod Refusals
+pub mod Verdicts
 pub mod Figures

@@ -7,8 +7,7 @@ use mathlib.Core.Bool.{true, not, false≢true}
 use mathlib.Core.List.{List, [], _∷_, _++_, append-nil}
 use lib.Dec.{eqb, ltb}
 use lib.ListN.{length}
-use borrow.Author.Tests.{eqb-true, eqb-false, ltb-true, ltb-false, le-leb, le-ltb}
-use borrow.Table.Steps.{cases}
+use borrow.Author.Tests.{le-leb, le-ltb}
 use Rattle.wire.specs.Line.{nak}
 use Rattle.wire.specs.Range.{liesIn}
 use Rattle.wire.specs.declared.range.Place.{Place}
@@ -36,9 +35,8 @@ use Rattle.host_flow.specs.declared.step.Step.the-variants.{Over}
 use Rattle.host_flow.specs.State.{state}
 use Rattle.host_flow.specs.Flow.{deviceRefused}
 use Rattle.joined.specs.Traffic.{greetingBytes, headerBytes}
-use Rattle.joined.specs.Accepted.{brought, against, effect, Fits, Passes}
-use Rattle.joined.specs.Refused.{HeaderRefused, payloadReasons, isAmong, PayloadRefused, Differs, NotVerified, Verdict, accepted, too-long, not-allowed, EveryVerdict}
-use Rattle.joined.specs.Refused as verdict
+use Rattle.joined.specs.Accepted.{brought, against, effect, Fits}
+use Rattle.joined.specs.Refused.{HeaderRefused, payloadReasons, isAmong, PayloadRefused, Differs, NotVerified}
 use Rattle.joined.proofs.HostRuns as hosts
 use Rattle.joined.proofs.DeviceRuns as devices
 use Rattle.joined.proofs.Effects.{Ends, answering, running, silently, Ended, ends, differs, ended}
@@ -118,7 +116,7 @@ payload-refused opcode (b ∷ bs) answer m e fits short fails =
       reason-is = reasons _ _ _ _ fails;
     }
 
-never-fails : {f : Follows} {e : Ending} {after : Memories} (why : ℕ) → Ends f e after → e ≡ ending.Failed why → ⊥
+pub never-fails : {f : Follows} {e : Ending} {after : Memories} (why : ℕ) → Ends f e after → e ≡ ending.Failed why → ⊥
 never-fails why (answering some room small) e = let z : _≡_ {A = ℕ} 0 1 = cc in omega arith
 never-fails why running e = let z : _≡_ {A = ℕ} 0 1 = cc in omega arith
 never-fails why silently e = let z : _≡_ {A = ℕ} 0 1 = cc in omega arith
@@ -136,24 +134,9 @@ not-verified opcode payload answer m e ok is = go (ended opcode payload m ok)
     go (ends x) = absurd (never-fails verifyDiffers x is)
     go (differs d) =
         record {
-          closed = closed c m e (ok .fitting) (whole opcode answer m payload k ok Greets (k .follows-is ∙ d .greets) (failing opcode c verifyDiffers (effect opcode payload m) is));
+          direct-write = d .direct-write;
+          closed = closed c m e (ok .fitting) (whole opcode answer m payload k ok Greets (k .follows-is ∙ rw (d .direct-write) refl) (failing opcode c verifyDiffers (effect opcode payload m) is));
+          store-stays = d .store-stays;
           same-ram = d .same-ram;
           same-work = d .same-work;
         }
-
-pub every-verdict : EveryVerdict
-every-verdict opcode payload answer m e fits =
-    cases (ltb (length (m .work)) (length payload)) (λ t. too-long (ltb-true _ _ t)) (λ f. fitted (ltb-false _ _ f))
-  where
-    fitted : length payload ≤ length (m .work) → Verdict opcode payload m
-    fitted short = cases (eqb (against opcode payload m) 0) (λ t. passed (eqb-true _ _ t)) (λ f. not-allowed short (eqb-false _ _ f))
-      where
-        passed : against opcode payload m ≡ 0 → Verdict opcode payload m
-        passed z = go (ended opcode payload m ok)
-          where
-            ok : Passes opcode payload m
-            ok = record { fitting = fits; has-length = known opcode payload answer e .has-length; in-work = short; passes = z }
-
-            go : Ended opcode payload m (effect opcode payload m) → Verdict opcode payload m
-            go (ends x) = accepted (record { good = ok; verified = never-fails verifyDiffers x })
-            go (differs d) = verdict.differs ok (d .fails)

@@ -17,7 +17,7 @@ use Rattle.host_flow.specs.Host.{host}
 use Rattle.host_flow.specs.Fresh.{fresh}
 use Rattle.host.specs.Session.{hostSession}
 
--- the host sends h, takes `used` and leaves `left`, which is all that the device sends; and both end so
+-- the host sends h, takes `used` and leaves `left`; the device takes h and sends `used` and `left`; and both end so
 pub record Closed (c : Lent) (m : Memories) (h used left : List ℕ) (host-end : State) (device-end : device-state.State) : Type 0 where
   pub host-is : uncut host (fresh c) (used ++ left) ≡ record { replies = h; taken = length used; final = host-end }
   pub device-is : uncut device (device-fresh.fresh m) h ≡ record { replies = used ++ left; taken = length h; final = device-end }

@@ -1,4 +1,4 @@
--- Figures over the joined line, byte by byte: Version, a Write of two bytes, and a Read of none, which is refused (rules, 7.6).
+-- Figures over the joined line, byte by byte: Version, a Write of two bytes, and three commands that are refused (rules, 7.6).
 -- Assumes nothing.
 use Prim.Native.Nat.{ℕ}
 use mathlib.Core.Path.{_≡_}
@@ -26,8 +26,8 @@ pub record Figure (c : Lent) (m : Memories) (said heard : List ℕ) (taken : ℕ
   pub device-is : uncut device (device-fresh.fresh m) said ≡ record { replies = heard; taken = length said; final = device-end }
 
 -- RAM, flash and work buffer of a few bytes
-abbrev pub small : (ram work : List ℕ) → Memories
-small ram work = memories ram (replicate 4 0xFF) (work ++ replicate 9 0x00)
+abbrev pub small : (ram : List ℕ) (flash : ℕ) (work : List ℕ) → Memories
+small ram flash work = memories ram (flash ∷ replicate 3 0xFF) (work ++ replicate 9 0x00)
 
 -- the 7 characters 0.0.0.3, in an answer buffer of 8 bytes
 abbrev pub versionText : List ℕ
@@ -35,10 +35,10 @@ versionText = 0x30 ∷ 0x2E ∷ 0x30 ∷ 0x2E ∷ 0x30 ∷ 0x2E ∷ 0x33 ∷ []
 
 abbrev pub VersionFigure : Type 0
 VersionFigure =
-    Figure (lent 0x0B [] (replicate 8 0xEE)) (small (replicate 4 0x00) (replicate 7 0x00))
+    Figure (lent 0x0B [] (replicate 8 0xEE)) (small (replicate 4 0x00) 0xFF (replicate 7 0x00))
     (0x01 ∷ 0x0B ∷ 0x00 ∷ 0x00 ∷ 0x06 ∷ 0x6E ∷ 0x62 ∷ [])
     (0x02 ∷ 0x01 ∷ 0x00 ∷ 0x03 ∷ 0x06 ∷ 0x07 ∷ 0x00 ∷ (versionText ++ (0x06 ∷ 0x02 ∷ 0x01 ∷ 0x00 ∷ 0x03 ∷ []))) 15
-    (state Over 0 (lent 0x0B [] (versionText ++ (0xEE ∷ [])))) (device-state.state (Header TakeSoh) 0 (small (replicate 4 0x00) versionText))
+    (state Over 0 (lent 0x0B [] (versionText ++ (0xEE ∷ [])))) (device-state.state (Header TakeSoh) 0 (small (replicate 4 0x00) 0xFF versionText))
 
 -- AA BB to RAM's first bytes
 abbrev pub writePayload : List ℕ
@@ -46,20 +46,40 @@ writePayload = 0x00 ∷ 0x00 ∷ 0xFC ∷ 0x07 ∷ 0xAA ∷ 0xBB ∷ []
 
 abbrev pub WriteFigure : Type 0
 WriteFigure =
-    Figure (lent 0x01 writePayload []) (small (replicate 4 0x00) (replicate 6 0x00))
+    Figure (lent 0x01 writePayload []) (small (replicate 4 0x00) 0xFF (replicate 6 0x00))
     (0x01 ∷ 0x01 ∷ 0x06 ∷ 0x00 ∷ (writePayload ++ (0x06 ∷ [])))
     (0x02 ∷ 0x01 ∷ 0x00 ∷ 0x03 ∷ 0x06 ∷ 0x06 ∷ 0xFA ∷ 0xBF ∷ 0x02 ∷ 0x01 ∷ 0x00 ∷ 0x03 ∷ []) 8
-    (state Over 0 (lent 0x01 writePayload [])) (device-state.state (Header TakeSoh) 0 (small (0xAA ∷ 0xBB ∷ 0x00 ∷ 0x00 ∷ []) writePayload))
+    (state Over 0 (lent 0x01 writePayload [])) (device-state.state (Header TakeSoh) 0 (small (0xAA ∷ 0xBB ∷ 0x00 ∷ 0x00 ∷ []) 0xFF writePayload))
 
+-- a Write that is longer than the work buffer
+abbrev pub LongFigure : Type 0
+LongFigure =
+    Figure (lent 0x01 (replicate 17 0x00) []) (small (replicate 4 0x00) 0xFF (replicate 6 0x00))
+    (0x01 ∷ 0x01 ∷ 0x11 ∷ 0x00 ∷ [])
+    (0x02 ∷ 0x01 ∷ 0x00 ∷ 0x03 ∷ 0x15 ∷ 0x02 ∷ 0x01 ∷ 0x00 ∷ 0x03 ∷ []) 5
+    (state Over 73 (lent 0x01 (replicate 17 0x00) [])) (device-state.state (Header TakeSoh) 13 (small (replicate 4 0x00) 0xFF (replicate 6 0x00)))
+
+-- a Read of no bytes
 abbrev pub readPayload : List ℕ
 readPayload = 0x00 ∷ 0x00 ∷ 0xFC ∷ 0x07 ∷ 0x00 ∷ 0x00 ∷ []
 
 abbrev pub ReadFigure : Type 0
 ReadFigure =
-    Figure (lent 0x02 readPayload []) (small (replicate 4 0x00) (replicate 6 0x00))
+    Figure (lent 0x02 readPayload []) (small (replicate 4 0x00) 0xFF (replicate 6 0x00))
     (0x01 ∷ 0x02 ∷ 0x06 ∷ 0x00 ∷ readPayload)
     (0x02 ∷ 0x01 ∷ 0x00 ∷ 0x03 ∷ 0x06 ∷ 0x15 ∷ 0x02 ∷ 0x01 ∷ 0x00 ∷ 0x03 ∷ []) 6
-    (state Over 73 (lent 0x02 readPayload [])) (device-state.state (Header TakeSoh) 15 (small (replicate 4 0x00) readPayload))
+    (state Over 73 (lent 0x02 readPayload [])) (device-state.state (Header TakeSoh) 15 (small (replicate 4 0x00) 0xFF readPayload))
+
+-- a Direct write of F0 over 0F, with verify: what is stored, 00, is not F0
+abbrev pub directPayload : List ℕ
+directPayload = 0x01 ∷ 0x00 ∷ 0x00 ∷ 0x00 ∷ 0x00 ∷ 0xF0 ∷ []
+
+abbrev pub DirectFigure : Type 0
+DirectFigure =
+    Figure (lent 0x12 directPayload []) (small (replicate 4 0x00) 0x0F (replicate 6 0x00))
+    (0x01 ∷ 0x12 ∷ 0x06 ∷ 0x00 ∷ (directPayload ++ (0x06 ∷ [])))
+    (0x02 ∷ 0x01 ∷ 0x00 ∷ 0x03 ∷ 0x06 ∷ 0x06 ∷ 0xAF ∷ 0xA4 ∷ 0x15 ∷ 0x02 ∷ 0x01 ∷ 0x00 ∷ 0x03 ∷ []) 9
+    (state Over 73 (lent 0x12 directPayload [])) (device-state.state (Header TakeSoh) 18 (small (replicate 4 0x00) 0x00 directPayload))
 
 -- memories of accepted lengths, and commands that a host and a session with them accept
 abbrev pub sample : Memories

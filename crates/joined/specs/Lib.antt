@@ -3,4 +3,5 @@ pub mod Accepted
 pub mod Closed
 pub mod Line
 pub mod Refused
+pub mod Verdict
 pub mod Figures

@@ -5,12 +5,15 @@ use mathlib.Core.Path.{_≡_}
 use mathlib.Core.Bool.{Bool, true, false, _||_}
 use mathlib.Core.List.{List, [], _∷_, _++_}
 use lib.Dec.{eqb}
-use lib.ListN.{length}
+use lib.ListN.{length, drop}
 use Rattle.wire.specs.Line.{ack, nak}
-use Rattle.memory.specs.Store.{laid}
+use Rattle.memory.specs.Store.{laid, changedFrom}
+use Rattle.memory.specs.Flash.{burnt}
 use Rattle.memory.specs.Memories.{Memories}
 use Rattle.opcodes.specs.declared.Opcode.{Opcode}
-use Rattle.opcodes.specs.Opcode.{opcodeNumber}
+use Rattle.opcodes.specs.declared.Opcode.the-variants.{DirectWrite}
+use Rattle.opcodes.specs.Opcode.{opcodeNumber, dataPlace}
+use Rattle.command.specs.Payload.{offsetAt}
 use Rattle.command.specs.Check.{badVerify, emptyRange, outsideMemory, pastEnd, longAnswer}
 use Rattle.command_execution.specs.declared.Ending.the-variants.{Failed}
 use Rattle.command_execution.specs.Execution.{verifyDiffers}
@@ -24,7 +27,7 @@ use Rattle.host_flow.specs.declared.step.Step.the-variants.{Over}
 use Rattle.host_flow.specs.State.{state}
 use Rattle.host_flow.specs.Flow.{deviceRefused}
 use Rattle.joined.specs.Traffic.{greetingBytes, headerBytes, hostBytes, deviceBytes}
-use Rattle.joined.specs.Accepted.{brought, against, effect, Fits, Passes, Accepted}
+use Rattle.joined.specs.Accepted.{brought, against, effect, Fits, Passes}
 use Rattle.joined.specs.Closed.{Closed}
 
 -- over the line the host sends h and takes `used`, which ends with 15; the greeting is left; the device has noted why
@@ -59,10 +62,13 @@ PayloadRefused =
     (opcode : Opcode) (payload answer : List ℕ) (m : Memories) → refusalOf (lent (opcodeNumber opcode) payload answer) ≡ 0 → Fits m →
     length payload ≤ length (m .work) → (against opcode payload m ≡ 0 → ⊥) → NotAllowed opcode payload answer m
 
--- 15 in place of the next greeting, since flash differs from the data: the store stays, RAM has not changed, the payload is in the work
--- buffer
+-- 15 in place of the next greeting, since after a Direct write flash differs from its data: the store stays, RAM has not changed, the
+-- payload is in the work buffer
 pub record Differs (opcode : Opcode) (payload answer : List ℕ) (m : Memories) : Type 0 where
+  pub direct-write : opcode ≡ DirectWrite
   pub closed : Refused opcode payload answer m (hostBytes opcode payload []) (deviceBytes payload (nak ∷ [])) verifyDiffers (effect opcode payload m .after)
+  pub store-stays : effect opcode payload m .after .flash
+      ≡ changedFrom (offsetAt 1 payload .0) (burnt (drop (dataPlace DirectWrite) payload)) (m .flash)
   pub same-ram : effect opcode payload m .after .ram ≡ m .ram
   pub same-work : effect opcode payload m .after .work ≡ laid payload (m .work)
 
@@ -70,14 +76,3 @@ abbrev pub NotVerified : Type 0
 NotVerified =
     (opcode : Opcode) (payload answer : List ℕ) (m : Memories) → refusalOf (lent (opcodeNumber opcode) payload answer) ≡ 0 → Passes opcode payload m →
     effect opcode payload m .ending ≡ Failed verifyDiffers → Differs opcode payload answer m
-
--- a command that the host doesn't refuse is accepted, or refused in one of these places
-pub data Verdict (opcode : Opcode) (payload : List ℕ) (m : Memories) : Type 0 where
-  accepted : Accepted opcode payload m → Verdict opcode payload m
-  too-long : length (m .work) < length payload → Verdict opcode payload m
-  not-allowed : length payload ≤ length (m .work) → (against opcode payload m ≡ 0 → ⊥) → Verdict opcode payload m
-  differs : Passes opcode payload m → effect opcode payload m .ending ≡ Failed verifyDiffers → Verdict opcode payload m
-
-abbrev pub EveryVerdict : Type 0
-EveryVerdict =
-    (opcode : Opcode) (payload answer : List ℕ) (m : Memories) → refusalOf (lent (opcodeNumber opcode) payload answer) ≡ 0 → Fits m → Verdict opcode payload m
