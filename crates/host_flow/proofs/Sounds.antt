@@ -3,7 +3,7 @@
 use Prim.Native.Nat.{ℕ, _+_, _<_}
 use native.Mathlib.Omega.{arith}
 use mathlib.Core.Path.{_≡_, refl, sym, ap, _∙_}
-use mathlib.Core.Bool.{Bool, true, false, cond, not, _&&_}
+use mathlib.Core.Bool.{true, cond, not}
 use mathlib.Core.List.{List, []}
 use lib.Dec.{eqb, ltb}
 use lib.ListN.{length, drop, set, length-set}
@@ -11,7 +11,7 @@ use lib.Seq.{drop-set-lt}
 use borrow.Author.Tests.{ltb-true, eqb-true, eqb-false, not-true}
 use Rattle.wire.specs.Line.{stx, ack, nak}
 use Rattle.wire.proofs.Tests.{in-cond, both-true}
-use Rattle.numbers.specs.Number.{paired, lowByte}
+use Rattle.numbers.specs.Number.{paired}
 use Rattle.machine.proofs.Doing.{Leaves}
 use Rattle.host_command.specs.declared.Follows.{Follows}
 use Rattle.host_command.specs.declared.Follows.the-variants.{Answers, Runs, Greets}
@@ -21,7 +21,7 @@ use Rattle.host_command.specs.Refusal.{refusalOf}
 use Rattle.host_flow.specs.declared.step.Step.{Step}
 use Rattle.host_flow.specs.declared.step.Step.the-variants.{TakeGreeting, SendHeader, TakeHeaderAck, SendPayload, TakePayloadAck, TakeCrcLow, TakeCrcHigh, SendGo, SendNak, TakeLengthLow, TakeLengthHigh, SendAnswerGo, TakeAnswer, SendCrcLow, SendCrcHigh, TakeLastAck, Look, Over}
 use Rattle.host_flow.specs.State.{State, state}
-use Rattle.host_flow.specs.Flow.{deviceRefused, deviceCrc, outOfFlow, etx, greetingLength, headerLength, payloadCrc, behind, headed, stored, goes, ends, expected, doesAt, does}
+use Rattle.host_flow.specs.Flow.{deviceRefused, deviceCrc, outOfFlow, etx, greetingLength, headerLength, payloadCrc, behind, headed, refusesAnswer, isAwaited, stored, goes, ends, expected, doesAt, does}
 use Rattle.host_flow.specs.Sound.{HasAnswer, SoundStep, Ready}
 use Rattle.host_flow.specs.Stays.{OnlyAnswer}
 
@@ -51,7 +51,7 @@ headed-sound : (x : Exchange) → SoundStep x (headed x)
 headed-sound x = in-cond (SoundStep x) (eqb (x .size) 0) _ _ (λ t. behind-sound x (x .follows) refl) (λ t. omega (arith, eqb-false (x .size) 0 t))
 
 -- an answer of the awaited length is not empty
-length-some : (size wanted : ℕ) → (eqb size wanted && not (eqb size 0)) ≡ true → 0 < wanted
+length-some : (size wanted : ℕ) → isAwaited wanted size ≡ true → 0 < wanted
 length-some size wanted e =
     let both = both-true (eqb size wanted) (not (eqb size 0)) e in
     omega (arith, eqb-true size wanted (both .0), eqb-false size 0 (not-true (eqb size 0) (both .1)))
@@ -99,9 +99,9 @@ module _ (c₀ : Lent) where
       does-held SendGo h = at (behind (exchange c .follows)) reason (behind-sound (exchange c) (exchange c .follows) refl)
       does-held SendNak h = at Over reason tt
       does-held TakeLengthLow h = λ byte g.
-          in-cond (Held c₀) (eqb byte nak && not (eqb byte (lowByte (awaited c)))) _ _ (λ t. at Over deviceRefused tt) (λ t. at (TakeLengthHigh byte) reason h)
+          in-cond (Held c₀) (refusesAnswer (awaited c) byte) _ _ (λ t. at Over deviceRefused tt) (λ t. at (TakeLengthHigh byte) reason h)
       does-held (TakeLengthHigh low) h = λ byte g.
-          in-cond (Held c₀) (eqb (paired low byte) (awaited c) && not (eqb (paired low byte) 0)) _ _
+          in-cond (Held c₀) (isAwaited (awaited c) (paired low byte)) _ _
           (λ t. at SendAnswerGo reason (length-some (paired low byte) (awaited c) t)) (λ t. at Over outOfFlow tt)
       does-held SendAnswerGo h = at (TakeAnswer 0) reason h
       does-held (TakeAnswer place) h = λ byte g.

@@ -2,7 +2,7 @@
 -- a byte and goes on. That the last step leaves 02 untaken is stated in Host.
 -- Assumes nothing.
 use Prim.Native.Nat.{ℕ, _+_}
-use mathlib.Core.Bool.{cond, not, _&&_}
+use mathlib.Core.Bool.{Bool, cond, not, _&&_}
 use mathlib.Core.List.{List}
 use lib.Dec.{eqb, ltb}
 use lib.ListN.{take, getD, set}
@@ -71,6 +71,13 @@ paid size count = cond (ltb count size) (SendPayload count) TakePayloadAck
 abbrev pub collected : (size count : ℕ) → Step
 collected size count = cond (ltb count size) (TakeAnswer count) SendCrcLow
 
+-- a low length byte 15 refuses, unless it is the awaited one; an answer has the awaited length, and never 0
+abbrev pub refusesAnswer : (size low : ℕ) → Bool
+refusesAnswer size low = eqb low nak && not (eqb low (lowByte size))
+
+abbrev pub isAwaited : (size came : ℕ) → Bool
+isAwaited size came = eqb came size && not (eqb came 0)
+
 -- an answer's byte stored at its place
 abbrev pub stored : (place byte : ℕ) → Lent → Lent
 stored place byte c = lent (c .opcode) (c .payload) (set (c .answer) place byte)
@@ -98,13 +105,12 @@ module _ (reason : ℕ) (c : Lent) where
   abbrev pub crcCame : (crc : ℕ) → State
   crcCame crc = cond (eqb crc (payloadCrc (c .payload))) (goes SendGo) (state SendNak deviceCrc c)
 
-  -- a low length byte 15 refuses, unless it is the awaited one
+  -- the answer's length: its low byte, and both
   abbrev pub lengthBegan : (low : ℕ) → State
-  lengthBegan low = cond (eqb low nak && not (eqb low (lowByte (awaited c)))) (ends deviceRefused) (goes (TakeLengthHigh low))
+  lengthBegan low = cond (refusesAnswer (awaited c) low) (ends deviceRefused) (goes (TakeLengthHigh low))
 
-  -- an answer has the awaited length, and never 0
   abbrev pub lengthCame : (size : ℕ) → State
-  lengthCame size = cond (eqb size (awaited c) && not (eqb size 0)) (goes SendAnswerGo) (ends outOfFlow)
+  lengthCame size = cond (isAwaited (awaited c) size) (goes SendAnswerGo) (ends outOfFlow)
 
   abbrev pub answered : (place byte : ℕ) → State
   answered place byte = state (collected (awaited c) (place + 1)) reason (stored place byte c)

@@ -1,4 +1,4 @@
--- A command that a session with these memories accepts, and its effect (rules, 7.6).
+-- A command that a session with these memories accepts, and its effect (rules, 15.9).
 -- Assumes nothing.
 use Prim.Native.Nat.{ℕ, _≤_}
 use mathlib.Core.Path.{_≡_}

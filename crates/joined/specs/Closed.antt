@@ -1,4 +1,4 @@
--- The host and uartboot joined by a clean line, both fresh: what they say to each other, and where they end (rules, 7.6).
+-- The host and uartboot joined by a clean line, both fresh: what they say to each other, and where they end (rules, 15.9).
 -- Assumes nothing.
 use Prim.Native.Nat.{ℕ}
 use mathlib.Core.Path.{_≡_}

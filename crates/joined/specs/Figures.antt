@@ -1,4 +1,4 @@
--- Figures over the joined line, byte by byte: Version, a Write of two bytes, and three commands that are refused (rules, 7.6).
+-- Figures over the joined line, byte by byte: Version, a Write of two bytes, and three commands that are refused (rules, 15.9).
 -- Assumes nothing.
 use Prim.Native.Nat.{ℕ}
 use mathlib.Core.Path.{_≡_}

@@ -1,5 +1,5 @@
 -- A command that the session accepts, over a joined line: it has its effect once, and the host is done, with reason 0, and holds the
--- answer (rules, 7.6).
+-- answer (rules, 15.9).
 -- Assumes nothing.
 use Prim.Native.Nat.{ℕ, _+_}
 use mathlib.Core.Path.{_≡_}

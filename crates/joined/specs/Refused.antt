@@ -1,4 +1,4 @@
--- A command that the session refuses, over a joined line: the host ends with reason 73 (rules, 7.6).
+-- A command that the session refuses, over a joined line: the host ends with reason 73 (rules, 15.9).
 -- Assumes nothing.
 use Prim.Native.Nat.{ℕ, _≤_, _<_}
 use mathlib.Core.Path.{_≡_}

@@ -1,4 +1,4 @@
--- What goes over the joined line for a command (rules, 7.6).
+-- What goes over the joined line for a command (rules, 15.9).
 -- Assumes nothing.
 use Prim.Native.Nat.{ℕ, _+_}
 use mathlib.Core.List.{List, [], _∷_, _++_}

@@ -1,4 +1,4 @@
--- A command that the host doesn't refuse is accepted by the session, or refused in one of three places (rules, 7.6).
+-- A command that the host doesn't refuse is accepted by the session, or refused in one of three places (rules, 15.9).
 -- Assumes nothing.
 use Prim.Native.Nat.{ℕ, _≤_, _<_}
 use mathlib.Core.Path.{_≡_}

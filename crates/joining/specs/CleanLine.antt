@@ -1,4 +1,4 @@
--- All that is claimed of two sessions joined by a clean line (rules, 7.6).
+-- All that is claimed of two sessions joined by a clean line (rules, 15.9).
 -- Assumes nothing.
 use Prim.Native.Nat.{ℕ}
 use mathlib.Core.List.{List}

@@ -1,4 +1,4 @@
--- Two definitions that close on each other: fed the other's bytes, each sends its own (rules, 7.6).
+-- Two definitions that close on each other: fed the other's bytes, each sends its own (rules, 15.9).
 -- Assumes nothing.
 use Prim.Native.Nat.{ℕ}
 use mathlib.Core.Path.{_≡_}

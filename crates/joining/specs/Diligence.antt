@@ -1,5 +1,5 @@
 -- A schedule of calls on two joined machines that keeps calling both sides with room and all unread bytes shown ends, where both
--- definitions end (rules, 7.6).
+-- definitions end (rules, 15.9).
 -- Assumes nothing.
 use Prim.Native.Nat.{ℕ, zero, suc, _≤_}
 use mathlib.Core.Path.{_≡_}

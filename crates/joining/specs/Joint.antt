@@ -1,5 +1,5 @@
 -- Two machines joined by a clean line: each is shown what the other has sent and it has not yet taken, in any pieces and with any room
--- (rules, 7.6).
+-- (rules, 15.9).
 -- Assumes nothing.
 use Prim.Native.Nat.{ℕ}
 use mathlib.Core.List.{List, foldl}

@@ -1,5 +1,5 @@
 -- Every list of calls on two joined sessions keeps to the bytes h and r, and no call of it is refused. It can end only where both
--- definitions end, and ends there if it keeps calling both sides with room and all unread bytes shown (rules, 7.6).
+-- definitions end, and ends there if it keeps calling both sides with room and all unread bytes shown (rules, 15.9).
 -- Assumes nothing.
 use Prim.Native.Nat.{ℕ, zero, suc, _≤_}
 use mathlib.Core.Path.{_≡_}

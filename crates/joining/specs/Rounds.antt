@@ -1,4 +1,4 @@
--- How often both sides of a line have been called with room for a byte and shown all that waits for them (rules, 7.6).
+-- How often both sides of a line have been called with room for a byte and shown all that waits for them (rules, 15.9).
 -- Assumes nothing.
 use Prim.Native.Nat.{ℕ, suc, _+_, _*_}
 use mathlib.Core.Bool.{Bool, false, cond, _&&_, _||_}

@@ -1,4 +1,4 @@
--- Every schedule of calls on two joined machines keeps to the bytes h and r, and can end only where both definitions end (rules, 7.6).
+-- Every schedule of calls on two joined machines keeps to the bytes h and r, and can end only where both definitions end (rules, 15.9).
 -- Assumes nothing.
 use Prim.Native.Nat.{ℕ}
 use mathlib.Core.Path.{_≡_}

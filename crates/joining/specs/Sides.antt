@@ -1,5 +1,5 @@
 -- Two sessions joined by a clean line, as their callers see them: each call is given the record and the memories that the one before it
--- left, is shown some of what the other side has sent and it has not yet taken, and is lent a reply slice (rules, 7.6).
+-- left, is shown some of what the other side has sent and it has not yet taken, and is lent a reply slice (rules, 15.9).
 -- Assumes nothing.
 use Prim.Native.Nat.{ℕ, _+_}
 use mathlib.Core.List.{List, _++_, foldl}
