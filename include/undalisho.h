@@ -1,8 +1,8 @@
 /* Undalisho: the serial boot line of Dialog chips.
  *
- * It plays a chip's end of the line (the boot ROM's receiver, and the loader uartboot), makes the frame that a host
- * sends to the receiver, names the flash slot that will start, orders versions, says what headers and commands hold,
- * and makes headers. What a function gives and writes follows from its arguments alone.
+ * It plays a chip's end of the line (the boot ROM's receiver, and the loader uartboot) and the host's end of uartboot,
+ * makes the frame that a host sends to the receiver, names the flash slot that will start, orders versions, says what
+ * headers and commands hold, and makes headers. What a function gives and writes follows from its arguments alone.
  *
  * For x86-64 Linux. To compile and link:
  *
@@ -66,7 +66,9 @@ enum {
     UND_NO_VALID_IMAGE = 53,
     UND_MALFORMED_VERSION = 61,
     UND_INSTALLED_NOT_VALID = 62,
-    UND_CANDIDATE_NOT_VALID = 63
+    UND_CANDIDATE_NOT_VALID = 63,
+    UND_BAD_COMMAND = 71,
+    UND_SHORT_ANSWER = 72
 };
 
 /* ---- Versions ----
@@ -246,16 +248,18 @@ und_product_header und_make_product_header(uint32_t first, uint32_t second);
 
 /* ---- Sessions ----
  *
- * A session plays the chip's end of the line for a host. All that it keeps is a record and memories, and the caller
- * holds both: a fresh record begins a session, and each call is lent the record as the last one left it, and the same
- * memories with the same lengths. Nobody else writes these between calls.
+ * A session plays one end of the line: the chip's, for a host (the receiver, uartboot), or the host's, for a device.
+ * All that it keeps is a record and memories, and the caller holds both: a fresh record begins a session, and each call
+ * is lent the record as the last one left it, and the same memories with the same lengths. Nobody else writes these
+ * between calls. A host's memories are its command and the buffer for the answer.
  *
- * A call is shown bytes that came from the host (input) and room for bytes to the host (reply). Either may be empty. It
- * takes and sends bytes until it cannot go on, and reports why (standing):
+ * A call is shown bytes that came from the other end (input) and room for bytes to it (reply; a host's is the output).
+ * Either may be empty. It takes and sends bytes until it cannot go on, and reports why (standing):
  *
- *     UND_WANTS_BYTE  it must take a byte, and all of the input is taken
+ *     UND_WANTS_BYTE  it needs a byte, and all of the input is taken
  *     UND_WANTS_ROOM  it must send a byte, and the reply is full
  *     UND_RUNS        code runs, at the address in record[UND_RECORD_HELD]; nothing is taken or sent any more
+ *     UND_OVER        the host's command is done, or a reason has ended it; nothing is taken or sent any more
  *
  * It took the input's first `taken` bytes; the others are shown to the next call again, before any newer ones. What is
  * to be sent are the reply's first `sent` bytes; those past them keep their contents. How the stream is cut into calls,
@@ -282,6 +286,9 @@ und_product_header und_make_product_header(uint32_t first, uint32_t second);
  *     32      15    kind P: code length 0
  *     33      15    code length above the RAM's
  *     34      none  a byte other than 06 after the XOR; the code stays in RAM and does not run
+ *     73      none  host: 15 where 02, 03, 06 or another low byte of an answer's length is due
+ *     74      15    the device's CRC of the payload differs
+ *     75      none  any other byte that is not due, or an answer's length that is not; 0 never is
  *
  * Of a Copy, the range in RAM is tested for 16 and 21 before the range in flash.
  */
@@ -302,17 +309,20 @@ enum {
     UND_ROM_NO_START = 31,
     UND_ROM_EMPTY_CODE = 32,
     UND_ROM_LONG_CODE = 33,
-    UND_ROM_NOT_ACKED = 34
+    UND_ROM_NOT_ACKED = 34,
+    UND_DEVICE_REFUSED = 73,
+    UND_DEVICE_CRC = 74,
+    UND_OUT_OF_FLOW = 75
 };
 
-/* A report's standing. */
-enum { UND_WANTS_BYTE = 1, UND_WANTS_ROOM = 2, UND_RUNS = 3 };
+/* A report's standing. The chip's end has the first three, the host's end the first two and the last. */
+enum { UND_WANTS_BYTE = 1, UND_WANTS_ROOM = 2, UND_RUNS = 3, UND_OVER = 3 };
 
 typedef struct {
     uint32_t number;
     uint32_t standing; /* 0 when refused */
     size_t taken;      /* how many bytes of the input */
-    size_t sent;       /* how many bytes of the reply */
+    size_t sent;       /* how many bytes of the reply, or of a host's output */
 } und_report;
 
 /* A record's words. C may read them, and hands them back as they came. Those that a phase does not use are 0. A call
@@ -320,11 +330,11 @@ typedef struct {
  * at other words that a phase does not use.
  */
 enum {
-    UND_RECORD_KIND = 0,   /* UND_KIND_P, UND_KIND_E or UND_KIND_UARTBOOT */
+    UND_RECORD_KIND = 0,   /* UND_KIND_P, UND_KIND_E, UND_KIND_UARTBOOT or UND_KIND_HOST */
     UND_RECORD_PHASE = 1,  /* what the session does next: see the tables of phases below */
     UND_RECORD_OPCODE = 2, /* uartboot: the command's */
-    UND_RECORD_LENGTH = 3, /* of the code, the payload or the answer */
-    UND_RECORD_PLACE = 4,  /* of the next byte there, or of the greeting, from 0; 0 in all other phases */
+    UND_RECORD_LENGTH = 3, /* of the code, the payload or the answer; a host does not use it */
+    UND_RECORD_PLACE = 4,  /* of the next byte there, of the greeting or of a host's header, from 0; else 0 */
     UND_RECORD_HELD = 5,   /* the low byte of a number whose high byte comes next, or the address at which code runs */
     UND_RECORD_REASON = 6, /* the last reason, 0 at first */
     UND_RECORD_WORDS = 8   /* how many words there are; word 7 is 0 */
@@ -334,7 +344,8 @@ enum {
 enum {
     UND_KIND_P = 0, /* the receiver whose lengths have two bytes (DA1453x) */
     UND_KIND_E = 1, /* the receiver that has extended lengths too (DA1458x) */
-    UND_KIND_UARTBOOT = 2
+    UND_KIND_UARTBOOT = 2,
+    UND_KIND_HOST = 3 /* the host's end of uartboot */
 };
 
 /* ---- The boot ROM's receiver ----
@@ -498,6 +509,103 @@ und_report und_uartboot_call(uint32_t record[8], const uint8_t *input, size_t in
  *                 if (input_len == 0)
  *                     return 0;
  *             }                                    // else the reply was full, and there is room again
+ *         }
+ *     }
+ */
+
+/* ---- The host's end of uartboot ----
+ *
+ * It sends one command to a device, checks the device's CRC and collects the answer. The command, an opcode of the
+ * table above with its payload, and the buffer for the answer are lent to each call, and are no part of the record. How
+ * many bytes of answer are awaited follows from the command: for Read and Read QSPI the payload's count, for Version 7,
+ * for all others none.
+ *
+ * 1. It takes the greeting, 02, any two bytes, 03. It sends 01, the opcode, the payload's length (2 bytes), takes 06.
+ * 2. If there is a payload, it sends that, takes 06 and the device's CRC-16 of it (2 bytes), and sends 06 if the CRC is
+ *    right. Else it sends 15, and reason 74 ends the command.
+ * 3. Run is now done. For an answer it takes the length (2 bytes), sends 06, takes the answer into the buffer, from its
+ *    first byte on, sends the answer's CRC-16 (2 bytes), takes 06, and is done. All other commands are done when the
+ *    next greeting's 02 is shown. That byte is not taken.
+ *
+ * 15 where 02, 03 or 06 is due ends the command with reason 73, any other byte there with 75. Of an answer's length, a
+ * low byte 15 that is not due ends it with 73; else both bytes are taken, and a length that is not the awaited one, or
+ * is 0, ends it with 75. All these bytes are taken. Answer bytes that came before a reason stay in the buffer.
+ *
+ * The next command has a fresh record. Its first call is shown what the last one has not taken, such as the 02 that was
+ * left in phase 16, which begins the next greeting. After an answer, and after reasons 73 and 74, uartboot greets by
+ * itself. After 75 it is not known where the device stands.
+ *
+ *     phase   the host                                    commands                   words used
+ *     0       takes 02, any byte, any byte, 03            all                        place (below 4)
+ *     1       sends 01, opcode, length                    all                        place (below 4)
+ *     2       takes the header's 06                       all
+ *     3       sends the payload                           with a payload             place (below its length)
+ *     4       takes the payload's 06                      with a payload
+ *     5       takes the low byte of the device's CRC      with a payload
+ *     6       takes its high byte                         with a payload             held
+ *     7, 8    sends 06, sends 15 after reason 74          with a payload
+ *     9       takes the low byte of the answer's length   with an answer
+ *     10      takes its high byte                         with an answer             held
+ *     11      sends 06                                    awaiting 1 byte or more
+ *     12      takes the answer                            awaiting 1 byte or more    place (below the awaited length)
+ *     13, 14  sends the answer's CRC, low and high byte   awaiting 1 byte or more
+ *     15      takes 06                                    awaiting 1 byte or more
+ *     16      looks for the next greeting's 02            without an answer, not Run
+ *     17      is done, or was ended by the reason         all
+ */
+
+/* Writes the record of a host that has a command to send, all eight words. */
+void und_host_fresh(uint32_t record[8]);
+
+/* A call to a host; see "Sessions". Where it reports UND_OVER, record[UND_RECORD_REASON] is 0 if the command is done;
+ * else it is the reason that has ended it.
+ *
+ * Number:  0
+ *          71  the opcode is unknown, or payload_len is not a length that it has, or is above 65535
+ *          72  answer_len is less than the awaited length
+ *          4   the record is unsound: a kind that is not UND_KIND_HOST, an unknown phase or one that the command does
+ *              not have, in phases 0 and 1 a place that is not below 4, in phase 3 one that is not below payload_len,
+ *              in phase 12 one that is not below the awaited length, in any other phase one that is not 0. A record
+ *              that was handed out for this command is never refused.
+ * Writes:  the record; the output's first `sent` bytes; the answer bytes that it took, in the answer buffer
+ */
+und_report und_host_call(uint32_t record[8], uint32_t opcode, const uint8_t *payload, size_t payload_len,
+                         const uint8_t *input, size_t input_len, uint8_t *output, size_t output_len, uint8_t *answer,
+                         size_t answer_len);
+
+/* Example: commands to a device. read_line waits for bytes from the device and gives how many it read, 0 where none
+ * come in time; write_line sends bytes to the device.
+ *
+ *     // What came from the device and was not taken yet; all 0 at first. It is kept from one command to the next.
+ *     struct unread {
+ *         uint8_t line[64];
+ *         size_t at, end;
+ *     };
+ *
+ *     // Sends one command, and leaves its answer in the buffer. Gives 0 where it is done, the number of a refusal, the
+ *     // reason that has ended it, or -1 where the device is silent.
+ *     int send_command(struct unread *came, uint32_t opcode, const uint8_t *payload, size_t payload_len,
+ *                      uint8_t *answer, size_t answer_len)
+ *     {
+ *         uint32_t record[UND_RECORD_WORDS];
+ *         uint8_t output[64];
+ *
+ *         und_host_fresh(record);
+ *         for (;;) {
+ *             und_report r = und_host_call(record, opcode, payload, payload_len, came->line + came->at,
+ *                                          came->end - came->at, output, sizeof output, answer, answer_len);
+ *             if (r.number != 0)
+ *                 return (int)r.number;
+ *             write_line(output, r.sent);
+ *             came->at += r.taken;
+ *             if (r.standing == UND_OVER)
+ *                 return (int)record[UND_RECORD_REASON];
+ *             if (r.standing == UND_WANTS_BYTE) {  // all that came is taken
+ *                 came->at = 0;
+ *                 came->end = read_line(came->line, sizeof came->line);
+ *                 if (came->end == 0)
+ *                     return -1;
+ *             }                                    // else the output was full, and there is room again
  *         }
  *     }
  */

@@ -19,8 +19,8 @@ GCC = ["gcc", "-Wall", "-Wextra", "-Wpedantic", "-Werror"]
 # size_t is one fixed-width type in the first and another in the second, so it is told from both.
 MACHINES = [["-m64"], ["-m32", "-ffreestanding"]]
 
-CLAIMS = [Path(__file__).with_name(name) for name in ("claims.c", "numbers.c")]
-PHASES = Path(__file__).with_name("phases.c")
+CLAIMS = [Path(__file__).with_name(name) for name in ("claims.c", "numbers.c", "claims_host.c")]
+PHASES = [Path(__file__).with_name(name) for name in ("phases.c", "phases_host.c")]
 INSTALLED, COMPARED = "tests/boundary/installed.c", "tests/compare/*.c"
 
 
@@ -87,8 +87,8 @@ def check_claims(include, archive, folder):
 
 
 def check_phases(root, archive, folder):
-    """The words that a phase uses: in the header's tables and in the library."""
-    library = run_over(Path(root) / "include", archive, PHASES, folder).splitlines()
+    """The words that a phase uses, and a host's commands that have it: in the header's tables and in the library."""
+    library = [line for asks in PHASES for line in run_over(Path(root) / "include", archive, asks, folder).splitlines()]
     for said, given in itertools.zip_longest(phases.header_lines(root), library):
         if said != given:
             raise Differs(f"the header has the phase '{said}', the library '{given}'")

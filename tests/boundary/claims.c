@@ -176,6 +176,10 @@ static void null_where_empty(void)
     HOLD(und_rom_call(record, NULL, 0, NULL, 0, ram, 1).standing == UND_WANTS_ROOM);
     HOLD(und_rom_call(record, NULL, 0, NULL, 0, NULL, 0).number == 2);
     HOLD(und_uartboot_call(record, NULL, 0, NULL, 0, NULL, 0, NULL, 0, NULL, 0).number == 1);
+    HOLD(und_host_call(record, 0x0C, NULL, 0, NULL, 0, NULL, 0, NULL, 0).number == 4);
+    HOLD(und_host_call(record, 0x0B, NULL, 0, NULL, 0, NULL, 0, NULL, 0).number == 72);
+    und_host_fresh(record);
+    HOLD(und_host_call(record, 0x0C, NULL, 0, NULL, 0, NULL, 0, NULL, 0).standing == UND_WANTS_BYTE);
     HOLD(und_frame_p(NULL, 0, NULL, 0).number == 41);
     HOLD(und_frame_e(ram, 1, NULL, 0).number == 43);
 }

@@ -1,4 +1,5 @@
-/* Runs the example of undalisho.h, header-example.inc, against a host that writes to RAM, reads it back and runs it. */
+/* Runs the first example of undalisho.h (header-examples.inc), against a host that writes to RAM, reads it back and
+   runs it. */
 #include "undalisho.h"
 
 #include <stdio.h>
@@ -26,7 +27,7 @@ static void write_line(const uint8_t *bytes, size_t count)
     to_host_len += count;
 }
 
-#include "header-example.inc"
+#include "header-examples.inc"
 
 static void host(const void *bytes, size_t count)
 {

@@ -66,9 +66,23 @@ static int uartboot(void)
     return r.sent == sizeof replies && memcmp(reply, replies, sizeof replies) == 0 && record[UND_RECORD_REASON] == 12;
 }
 
+static int hosts(void)
+{
+    static const uint8_t device[] = {2, 1, 0, 3, 6, 7, 0, '0', '.', '0', '.', '0', '.', '3', 6},
+                         sent[] = {1, 0x0B, 0, 0};
+    uint8_t answer[7];
+    und_report r;
+
+    und_host_fresh(record);
+    r = und_host_call(record, UND_OP_VERSION, NULL, 0, device, sizeof device, reply, sizeof reply, answer,
+                      sizeof answer);
+    return r.standing == UND_OVER && r.taken == sizeof device && r.sent == 7 && memcmp(reply, sent, sizeof sent) == 0 &&
+           record[UND_RECORD_REASON] == 0 && memcmp(answer, "0.0.0.3", sizeof answer) == 0;
+}
+
 int main(void)
 {
-    if (versions() && images() && readings() && makings() && receivers() && uartboot())
+    if (versions() && images() && readings() && makings() && receivers() && uartboot() && hosts())
         return 0;
     fprintf(stderr, "installed: the library answers otherwise\n");
     return 1;

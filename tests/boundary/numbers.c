@@ -39,6 +39,9 @@ static void refusals(void)
     HOLD(und_offer(flash, sizeof flash, file, sizeof file).number == UND_INSTALLED_NOT_VALID);
     HOLD(und_offer(file, sizeof file, flash, sizeof flash).number == UND_CANDIDATE_NOT_VALID);
     HOLD(und_rank(flash, UND_VERSION_FIELD).number == UND_MALFORMED_VERSION);
+    und_host_fresh(record);
+    HOLD(und_host_call(record, 0x07, NULL, 0, NULL, 0, NULL, 0, NULL, 0).number == UND_BAD_COMMAND);
+    HOLD(und_host_call(record, 0x0B, NULL, 0, NULL, 0, NULL, 0, reply, 6).number == UND_SHORT_ANSWER);
 }
 
 /* The last reason of a fresh session that is fed these bytes. */
@@ -54,9 +57,18 @@ static uint32_t reason_of(uint32_t kind, const uint8_t *bytes, size_t count)
     return record[UND_RECORD_REASON];
 }
 
-#define REASON(kind, ...) reason_of(kind, (const uint8_t[]){__VA_ARGS__}, sizeof((const uint8_t[]){__VA_ARGS__}))
-#define UARTBOOT(...) REASON(UND_KIND_UARTBOOT, __VA_ARGS__)
-#define RECEIVER(...) REASON(UND_KIND_P, __VA_ARGS__)
+/* The reason that ends a Run of a fresh host that is shown these bytes of a device; its payload is all 00. */
+static uint32_t ending_of(const uint8_t *bytes, size_t count)
+{
+    und_host_fresh(record);
+    HOLD(und_host_call(record, 0x05, code, 4, bytes, count, reply, sizeof reply, NULL, 0).standing == UND_OVER);
+    return record[UND_RECORD_REASON];
+}
+
+#define BYTES(...) (const uint8_t[]){__VA_ARGS__}, sizeof((const uint8_t[]){__VA_ARGS__})
+#define UARTBOOT(...) reason_of(UND_KIND_UARTBOOT, BYTES(__VA_ARGS__))
+#define RECEIVER(...) reason_of(UND_KIND_P, BYTES(__VA_ARGS__))
+#define HOST(...) ending_of(BYTES(__VA_ARGS__))
 
 static void reasons(void)
 {
@@ -75,6 +87,10 @@ static void reasons(void)
     HOLD(RECEIVER(0x01, 0, 0) == UND_ROM_EMPTY_CODE);
     HOLD(RECEIVER(0x01, 2, 0) == UND_ROM_LONG_CODE);
     HOLD(RECEIVER(0x01, 1, 0, 7, 0x15) == UND_ROM_NOT_ACKED);
+    HOLD(HOST(2, 1, 0, 3, 0x15) == UND_DEVICE_REFUSED);
+    HOLD(HOST(2, 1, 0, 3, 6, 6, 0xC0, 0x85) == UND_DEVICE_CRC);
+    HOLD(HOST(2, 1, 0, 3, 6, 6, 0xC0, 0x84) == 0);
+    HOLD(HOST(2, 1, 0, 3, 7) == UND_OUT_OF_FLOW);
 }
 
 /* Whether a payload 01 02 03 .. says these numbers. */

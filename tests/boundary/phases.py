@@ -1,4 +1,5 @@
-"""The tables of phases in undalisho.h: for each kind and phase a line with the words that it uses."""
+"""The tables of phases in undalisho.h: for each kind and phase a line with the words that it uses, of a host with the commands that
+have it before them."""
 import re
 from pathlib import Path
 
@@ -21,12 +22,13 @@ def rows(text, head):
     return found
 
 
-def lines_of(receiver, uartboot):
+def lines_of(receiver, uartboot, host):
     table = [("P", row) for row in receiver if "(E only)" not in row[1]]
     table += [("E", row) for row in receiver] + [("uartboot", row) for row in uartboot]
+    table += [("host", (phases, does, re.sub("  +", "; ", words))) for phases, does, words in host]
     return [f"{kind} {phase}: {words}" for kind, (phases, _, words) in table for phase in phases]
 
 
 def header_lines(root):
     text = Path(root, "include/undalisho.h").read_text()
-    return lines_of(*(rows(text, f" *     phase{name}") for name in ("  the receiver", "    uartboot")))
+    return lines_of(*(rows(text, f" *     phase{name}") for name in ("  the receiver", "    uartboot", "   the host")))

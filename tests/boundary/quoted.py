@@ -1,19 +1,19 @@
 #!/usr/bin/env python3
-"""What undalisho.h and README.md quote: an example, and a program with the command that makes it and what it prints.
+"""What undalisho.h and README.md quote: examples, and a program with the command that makes it and what it prints.
 
-quoted.py ROOT header-example|readme-program|readme-command|readme-output
+quoted.py ROOT header-examples|readme-program|readme-command|readme-output
 """
 import re
 import sys
 from pathlib import Path
 
 
-def header_example(root):
-    """The code in the comment that begins with 'Example'."""
+def header_examples(root):
+    """The code in the comments that begin with 'Example'."""
     text = (Path(root) / "include/undalisho.h").read_text()
-    comment = re.search(r"/\* Example.*?\*/", text, re.DOTALL)[0]
-    code = comment[comment.index("\n *     "):comment.rindex("\n */")]
-    return re.sub(r"\n \*(     )?", "\n", code).lstrip("\n") + "\n"
+    comments = re.findall(r"/\* Example.*?\*/", text, re.DOTALL)
+    codes = [comment[comment.index("\n *     "):comment.rindex("\n */")] for comment in comments]
+    return "\n".join(re.sub(r"\n \*(     )?", "\n", code).lstrip("\n") + "\n" for code in codes)
 
 
 def readme_example(root):
@@ -27,7 +27,7 @@ def readme_example(root):
 
 
 PARTS = {
-    "header-example": header_example,
+    "header-examples": header_examples,
     "readme-program": lambda root: readme_example(root)[0],
     "readme-command": lambda root: readme_example(root)[1],
     "readme-output": lambda root: readme_example(root)[2],

@@ -17,6 +17,7 @@ HEADER = "include/undalisho.h"
 CAPI, OFFER = "crates/capi/src/lib.rt", "crates/offer/src/lib.rt"
 CAPI_FRAME, FRAME = "crates/capi_frame/src/lib.rt", "crates/frame/src/lib.rt"
 CAPI_ROM, CAPI_UARTBOOT, CALLED = "crates/capi_rom/src/lib.rt", "crates/capi_uartboot/src/lib.rt", "crates/called/src/lib.rt"
+CAPI_HOST = "crates/capi_host/src/lib.rt"
 CAPI_INSPECT, IMAGE_HEADER = "crates/capi_inspect/src/lib.rt", "crates/inspect/src/image_header.rt"
 CAPI_HEADERS, HEADERS, IMAGE = "crates/capi_headers/src/lib.rt", "crates/headers/src/lib.rt", "crates/image/src/lib.rt"
 RANK, ORDER = "crates/version/src/rank.rt", "crates/version/src/order.rt"
@@ -36,8 +37,15 @@ EDITS = {
          "conflicting types for 'und_rank'"),
         ("parameter left out", ", size_t field_len", "", "conflicting types for 'und_rank'"),
         ("parameter added", "size_t field_len", "size_t field_len, uint32_t more", "conflicting types for 'und_rank'"),
-        ("number after the bytes", "uint32_t opcode, const uint8_t *payload, size_t payload_len",
-         "const uint8_t *payload, size_t payload_len, uint32_t opcode", "conflicting types for 'und_read_command'"),
+        ("number after the bytes", "und_read_command(uint32_t opcode, const uint8_t *payload, size_t payload_len",
+         "und_read_command(const uint8_t *payload, size_t payload_len, uint32_t opcode", "conflicting types for 'und_read_command'"),
+        ("opcode of 8 bits", "record[8], uint32_t opcode,", "record[8], uint8_t opcode,", "conflicting types for 'und_host_call'"),
+        ("answer that is only read", "uint8_t *answer,\n", "const uint8_t *answer,\n", "conflicting types for 'und_host_call'"),
+        ("output and answer swapped", "uint8_t *output, size_t output_len, uint8_t *answer,\n                         size_t answer_len",
+         "uint8_t *answer, size_t answer_len, uint8_t *output,\n                         size_t output_len",
+         "the header gives und_host_call the parameters"),
+        ("record of a host that is only read", "host_fresh(uint32_t record[8])", "host_fresh(const uint32_t record[8])",
+         "conflicting types for 'und_host_fresh'"),
         ("byte of 32 bits as parameter", "uint8_t id,", "uint32_t id,", "conflicting types for 'und_make_image_header'"),
         ("byte of 32 bits as result", "uint8_t und_next_id(", "uint32_t und_next_id(", "conflicting types for 'und_next_id'"),
         ("time of 64 bits", "uint32_t time);", "uint64_t time);", "conflicting types for 'und_make_image_header'"),
@@ -108,12 +116,14 @@ EDITS = {
          "lacks .'function und_read_image'."),
         ("making left out", "und_product_header und_make_product_header(uint32_t first, uint32_t second);", "",
          "lacks .'function und_make_product_header'."),
+        ("host left out", "void und_host_fresh(uint32_t record[8]);", "", "lacks .'function und_host_fresh'."),
         ("function renamed", "und_ranked und_rank(", "und_ranked und_ranks(",
          "the header has .'function und_ranks'. that .*lacks .'function und_rank'."),
         ("variable added", "/* ---- Versions", "extern int und_state;\n/* ---- Versions",
          "'extern int und_state' is neither"),
         # Constants.
         ("wrong kind", "UND_KIND_E = 1", "UND_KIND_E = 0", "not so: .*UND_KIND_E"),
+        ("wrong kind of a host", "UND_KIND_HOST = 3", "UND_KIND_HOST = 4", "not so: .*UND_KIND_HOST"),
         ("wrong standing", "UND_WANTS_ROOM = 2", "UND_WANTS_ROOM = 3", "not so: .*UND_WANTS_ROOM"),
         ("wrong word", "UND_RECORD_PLACE = 4", "UND_RECORD_PLACE = 5", "not so: .*UND_RECORD_PLACE"),
         ("wrong word for the address", "UND_RECORD_HELD = 5", "UND_RECORD_HELD = 7", "not so: .*UND_RECORD_HELD"),
@@ -141,7 +151,8 @@ EDITS = {
         ("running with any opcode", "opcode (05), held", "opcode, held", "the header has the phase 'uartboot 19: opcode, held'"),
         ("receiver without its address", "runs the code                                           held (the address)",
          "runs the code", "the header has the phase 'P 11: ', the library 'P 11: held'"),
-        ("greeting with five places", "place (below 4)", "place (below 5)", "the header has the phase 'uartboot 0: place"),
+        ("greeting with five places", "sends 02 01 00 03                                     place (below 4)",
+         "sends 02 01 00 03                                     place (below 5)", "the header has the phase 'uartboot 0: place"),
         ("place of one byte", "takes 06                                              opcode, length",
          "takes 06                                              opcode, length, place (below the length)",
          "the header has the phase 'uartboot 13: opcode, length, place"),
@@ -151,6 +162,17 @@ EDITS = {
          "the header has the phase 'P 4: ', the library 'P 6: length'"),
         ("phase left out", " *     18       sends 15\n", "",
          "the header has the phase 'uartboot 19: .*, the library 'uartboot 18: '"),
+        ("phase of commands that lack it", "takes the payload's 06                      with a payload",
+         "takes the payload's 06                      all", "the header has the phase 'host 4: all', the library 'host 4: with a"),
+        ("answer that may be empty", "sends 06                                    awaiting 1 byte or more",
+         "sends 06                                    with an answer", "the header has the phase 'host 11: with an answer'"),
+        ("greeting awaited after Run", "without an answer, not Run", "without an answer", "the header has the phase 'host 16: without an"),
+        ("payload with places of its answer", "place (below its length)", "place (below the awaited length)",
+         "the header has the phase 'host 3: with a payload; place .below the awaited length.'"),
+        ("CRC that holds nothing", "takes its high byte                         with a payload             held",
+         "takes its high byte                         with a payload", "the header has the phase 'host 6: with a payload', the library"),
+        ("host that is never done", " *     17      is done, or was ended by the reason         all\n", "",
+         "the header has the phase 'None', the library 'host 17: all'"),
     ],
     CAPI: [
         ("lent memories swapped", "installed: &[u8], candidate: &[u8]", "candidate: &[u8], installed: &[u8]",
@@ -175,6 +197,12 @@ EDITS = {
     CAPI_UARTBOOT: [
         ("lent memories swapped", "    flash: &mut [u8],\n    work: &mut [u8],", "    work: &mut [u8],\n    flash: &mut [u8],",
          "the header gives und_uartboot_call the parameters"),
+    ],
+    CAPI_HOST: [
+        ("output and answer swapped", "    output: &mut [u8],\n    answer: &mut [u8],", "    answer: &mut [u8],\n    output: &mut [u8],",
+         "the header gives und_host_call the parameters"),
+        ("payload that is written", "payload: &[u8]", "payload: &mut [u8]", "conflicting types for 'und_host_call'"),
+        ("function renamed", "fn und_host_fresh(", "fn und_host_new(", "lacks .'function und_host_new'."),
     ],
     CALLED: [("counts swapped", "pub taken: usize,\n    pub sent: usize,", "pub sent: usize,\n    pub taken: usize,",
               'static assertion failed: "und_report.sent: place"')],
@@ -215,6 +243,7 @@ ARCHIVES = [
     ("making left out", "--localize-symbol=und_make_image_header",
      "the archive .*lacks .'function und_make_image_header'."),
     ("reading left out", "--localize-symbol=und_read_image", "the archive .*lacks .'function und_read_image'."),
+    ("host left out", "--localize-symbol=und_host_call", "the archive .*lacks .'function und_host_call'."),
     ("function renamed", "--redefine-sym=und_rank=und_ranks", "the archive has .'function und_ranks'."),
     ("symbol added", "--add-symbol=und_state=0,global,object", "the archive has .'A und_state'"),
 ]
