@@ -25,10 +25,15 @@ class Demo(bench.Case):
             self.assertRegex(picture[0], r'111.*22.*H')
             marks, = [line for line in part.splitlines() if line.endswith(' starts') and '^' in line]
             self.assertEqual({picture[0][i] for i, sign in enumerate(marks) if sign == '^'}, {str(slot)})
-        for words in ['boot ROM waits for code', 'running', 'Get version is done', 'Erase QSPI is done', 'Copy to QSPI is done']:
+        for words in ['boot ROM waits for code', 'running']:
             self.assertIn(words, before)
+        host, chip = before.split('$ cat monitor.log')
+        for name, answer in [('Get version', '30 2E 30 2E 30 2E 33'), ('Erase QSPI', '02'), ('Copy to QSPI', '02')]:
+            self.assertRegex(host, rf' host 01 0[34B] 0[08A] 00 +{name}.*\n.* chip {answer} +{name} is done')
+            self.assertIn(f'{name} is done', chip)
         self.assertIn('version 1.10', after)
-        self.assertNotIn('warning', text)
+        for words in ['warning', 'cut short', 'dropped']:
+            self.assertNotIn(words, text)
 
     def test_to_a_file(self):
         with open(self.path('output'), 'w+b') as output:
@@ -63,13 +68,13 @@ class Demo(bench.Case):
 
     def test_unwritable_folder(self):
         """What is in the user's own folder stays."""
-        mine = ['flash.bin', 'package.bin', 'visit.bin', 'monitor', 'monitor.log']
+        mine = ['flash.bin', 'package.bin', 'monitor', 'monitor.log']
         for name in mine:
             self.file(name, b'mine')
         for place in ['/nonexistent', self.path('flash.bin'), '/proc']:
             with self.subTest(place=place):
                 self.tool('demo', code=bench.FAILED, env={**os.environ, 'TMPDIR': place})
-        self.assertEqual([self.content(name) for name in mine], [b'mine'] * 5)
+        self.assertEqual([self.content(name) for name in mine], [b'mine'] * len(mine))
 
     def test_full_output(self):
         with open('/dev/full', 'wb') as full:

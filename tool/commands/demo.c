@@ -1,4 +1,5 @@
 /* undalisho demo: a visit to a monitor from beginning to end, with none plugged in. */
+#include "commanding.h"
 #include "commands.h"
 #include "demo_files.h"
 #include "exits.h"
@@ -7,6 +8,7 @@
 #include "openings.h"
 #include "options.h"
 #include "say.h"
+#include "session.h"
 #include "signals.h"
 #include "undalisho.h"
 
@@ -15,17 +17,15 @@
 #include <signal.h>
 #include <stdio.h>
 #include <stdlib.h>
-#include <string.h>
 #include <sys/stat.h>
 #include <sys/wait.h>
 #include <unistd.h>
 
-/* In milliseconds: how long the monitor may take to appear or to answer, and how often it is looked for. */
-enum { PATIENCE = 10000, STEP = 20 };
+/* How long the monitor may take to appear or to answer; in milliseconds, with how often it is looked for. */
+enum { SECONDS = 10, PATIENCE = SECONDS * 1000, STEP = 20 };
 
 /* The demo's files, in a folder of their own. */
-static char flash[] = "flash.bin", package[] = "package.bin", recording[] = "visit.bin", port[] = "monitor",
-            log_file[] = "monitor.log";
+static char flash[] = "flash.bin", package[] = "package.bin", port[] = "monitor", log_file[] = "monitor.log";
 static char *folder; /* NULL until it is made */
 static pid_t monitor;
 
@@ -65,14 +65,13 @@ static int make_files(void)
         return fail_errno(next_step, "a folder for the demo's files cannot be made");
     folder = realpath(".", NULL);
     printf("The demo's files are in %s, and its commands are run there.\n", folder);
-    bool made = write_and_free(flash, demo_flash()) && write_and_free(package, demo_package()) &&
-                write_and_free(recording, demo_visit());
+    bool made = write_and_free(flash, demo_flash()) && write_and_free(package, demo_package());
     return made ? DONE : fail_errno(next_step, "the demo's files cannot be written");
 }
 
 static void remove_files(void)
 {
-    const char *const paths[] = {flash, package, recording, port, log_file};
+    const char *const paths[] = {flash, package, port, log_file};
     if (!folder)
         return;
     for (size_t i = 0; i < sizeof paths / sizeof *paths; i++)
@@ -141,36 +140,44 @@ static int load_package(void)
     return run_load(type("load", words, ""), words);
 }
 
-/* Sends a host's bytes, and takes as many as `replies` has. Gives whether they are the same. */
-static bool converse(line *l, content host, content replies)
+/* Takes the rest of the greeting after the last command, so that the monitor is not stopped in the middle of it. */
+static int take_greeting(commanding *c)
 {
-    uint8_t bytes[256];
-    size_t at = 0, count;
-    while (at < host.length && line_write(l, host.bytes + at, host.length - at, PATIENCE, &count) == LINE_OK)
-        at += count;
-    bool same = at == host.length;
-    for (at = 0; same && at < replies.length; at += count) {
-        size_t left = replies.length - at;
-        same = line_read(l, bytes, left < sizeof bytes ? left : sizeof bytes, PATIENCE, &count) == LINE_OK &&
-               memcmp(bytes, replies.bytes + at, count) == 0;
-    }
-    return same;
+    uint8_t bytes[MOST_GREETING];
+    size_t all = session_greeting(UND_KIND_UARTBOOT, bytes), count = 0;
+    for (size_t have = c->end - c->at; have < all; have += count)
+        if (line_read(&c->line, bytes, all - have, PATIENCE, &count) != LINE_OK)
+            return fail_demo("the monitor does not greet again");
+    return DONE;
 }
 
-/* Plays the recorded visit to the monitor's line, until all that the library answers to it has come. */
-static int play_visit(void)
+static int send_all(commanding *c, uartboot_command *commands, size_t count)
 {
-    line l;
-    content host, replies = demo_replies();
-    if (!read_file(recording, UND_RAM_MAX, &host) || !line_open(&l, port, USUAL_BAUD))
-        return fail_errno(next_step, "the visit or the monitor's line cannot be opened");
-    printf("\n$ cat %s > %s\n", recording, port);
-    fflush(stdout);
-    bool same = converse(&l, host, replies);
-    line_close(&l);
-    free(host.bytes);
-    free(replies.bytes);
-    return same ? stop_monitor() : fail_demo("the monitor does not answer as it should");
+    int code = DONE;
+    for (size_t i = 0; code == DONE && i < count; i++)
+        code = send_command(c, &commands[i]);
+    return code == DONE ? take_greeting(c) : code;
+}
+
+/* The visit to uartboot, over the monitor's line. */
+static int command_monitor(void)
+{
+    static commanding c = {.seconds = SECONDS, .log = {.fd = -1}};
+    uint8_t answer[UND_WORK_MIN];
+    content erase = demo_erase(), copy = demo_copy();
+    uartboot_command commands[] = {
+        {.opcode = UND_OP_VERSION, .answer = {answer, sizeof answer}},
+        {.opcode = UND_OP_ERASE, .payload = erase},
+        {.opcode = UND_OP_COPY, .payload = copy},
+    };
+    printf("\n");
+    if (!line_open(&c.line, port, USUAL_BAUD))
+        return fail_errno(next_step, "the monitor's line cannot be opened");
+    int code = send_all(&c, commands, sizeof commands / sizeof *commands);
+    line_close(&c.line);
+    free(erase.bytes);
+    free(copy.bytes);
+    return code == DONE ? stop_monitor() : code;
 }
 
 static int show_log(void)
@@ -194,7 +201,7 @@ static const scene scenes[] = {
     {NULL, show_map},
     {"No monitor is plugged in: it is played, on a pseudo-terminal.", start_monitor},
     {"The bench loads uartboot through the boot ROM's line, a new image after it.", load_package},
-    {"uartboot runs. A recorded visit erases slot 2 and copies the new image there.", play_visit},
+    {"uartboot runs. The bench asks for its version, erases slot 2 and copies the new image there.", command_monitor},
     {"What the monitor saw: who sent which bytes, and what they mean.", show_log},
     {"The new image has version 1.10. Versions are compared number by number:", show_order},
     {"The flash now. Slot 2 has the newer image, and will start.", show_map},

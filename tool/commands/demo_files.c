@@ -1,28 +1,19 @@
 #include "demo_files.h"
 
 #include "memory.h"
-#include "session.h"
-#include "text.h"
 #include "undalisho.h"
 #include "view.h"
 
-#include <stdlib.h>
 #include <string.h>
 
 /* As in the example of the vendor's note on two images. */
 enum { FLASH = 0x20000, FIRST = 0x8000, SECOND = 0x13000 };
 
-/* The recorded visit copies PACKED bytes, which come after the stand-in. */
+/* The sectors that the image in slot 2 has, and the new one after it. */
+enum { SLOT = 2 * UND_FLASH_SECTOR };
+
+/* The image has PACKED bytes, which come after the stand-in. */
 enum { STAND_IN = 0x400, PACKED = 0x1800 };
-
-/* Room for the replies to the visit. */
-enum { REPLIES = 256 };
-
-static const uint8_t visit[] = {
-    0x01, 0x0B, 0x00, 0x00, 0x06, 0x6E, 0x62,                                                 /* version */
-    0x01, 0x04, 0x08, 0x00, 0x00, 0x30, 0x01, 0x00, 0x00, 0x20, 0x00, 0x00, 0x06,             /* erase */
-    0x01, 0x03, 0x0A, 0x00, 0x00, 0x04, 0xFC, 0x07, 0x00, 0x18, 0x00, 0x30, 0x01, 0x00, 0x06, /* copy */
-};
 
 static void put_code(uint8_t *at, size_t length, uint32_t seed)
 {
@@ -63,27 +54,27 @@ content demo_package(void)
     return package;
 }
 
-content demo_visit(void)
+/* A number, low byte first. Gives the place after it. */
+static uint8_t *put_number(uint8_t *at, size_t bytes, uint32_t number)
 {
-    content host = {memory_of(sizeof visit), sizeof visit};
-    memcpy(host.bytes, visit, sizeof visit);
-    return host;
+    for (; bytes > 0; bytes--, number >>= 8)
+        *at++ = (uint8_t)number;
+    return at;
 }
 
-content demo_replies(void)
+content demo_erase(void)
 {
-    session s = {.ram = demo_package(), .flash = demo_flash(), .work = {memory_of(UND_WORK_MIN), UND_WORK_MIN}};
-    content replies = {memory_of(REPLIES), 0};
-    size_t at = 0;
-    und_report r = {0};
-    session_fresh(&s, UND_KIND_UARTBOOT);
-    do {
-        r = session_turn(&s, visit + at, sizeof visit - at, replies.bytes + replies.length, REPLIES - replies.length);
-        at += r.taken;
-        replies.length += r.sent;
-    } while (r.taken + r.sent > 0);
-    free(s.ram.bytes);
-    free(s.flash.bytes);
-    free(s.work.bytes);
-    return replies;
+    content payload = {memory_of(8), 8};
+    uint8_t *at = put_number(payload.bytes, 4, SECOND);
+    put_number(at, 4, SLOT);
+    return payload;
+}
+
+content demo_copy(void)
+{
+    content payload = {memory_of(10), 10};
+    uint8_t *at = put_number(payload.bytes, 4, UND_RAM_FIRST + STAND_IN);
+    at = put_number(at, 2, PACKED);
+    put_number(at, 4, SECOND);
+    return payload;
 }

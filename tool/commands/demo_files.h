@@ -10,10 +10,8 @@ content demo_flash(void);
 /* A stand-in for uartboot, and after it an image with version 1.10. */
 content demo_package(void);
 
-/* What a host once sent to uartboot: it asks for the version, erases slot 2, and copies the package's image there. */
-content demo_visit(void);
-
-/* What uartboot answers to that, as the library says, with the package in RAM and this flash. */
-content demo_replies(void);
+/* The payloads of the commands that erase slot 2, and that copy the package's image there. */
+content demo_erase(void);
+content demo_copy(void);
 
 #endif

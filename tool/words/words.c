@@ -44,6 +44,16 @@ static const meaning numbers[] = {
      "write one to four numbers from 0 to 65535 with dots between them and no leading zero, in at most 16 characters"},
     {UND_INSTALLED_NOT_VALID, "the installed file is not a valid image", "take another copy of the installed image"},
     {UND_CANDIDATE_NOT_VALID, "the candidate is not a valid image", "take another copy of the candidate"},
+    {UND_BAD_COMMAND, "uartboot has no such command, or none with a payload of this length",
+     "check opcode and payload; a payload has at most 65535 bytes"},
+    {UND_SHORT_ANSWER, "the room for the answer is too short", "report this: the program has lent too little room"},
+    {UND_DEVICE_REFUSED, "the device has refused the command",
+     "check its addresses, offsets and counts, and whether the flash was erased before; then send it again"},
+    {UND_DEVICE_CRC, "the device's CRC of the payload differs",
+     "send the command again; if it stays so, look at cable and baud rate"},
+    {UND_OUT_OF_FLOW, "the device has sent what is not due",
+     "look at cable and baud rate, and whether uartboot runs; reset the monitor, load uartboot again, then send the "
+     "command again"},
 };
 
 /* The limits that are spelled out above. */
