@@ -248,13 +248,13 @@ und_product_header und_make_product_header(uint32_t first, uint32_t second);
 
 /* ---- Sessions ----
  *
- * A session plays one end of the line: the chip's, for a host (the receiver, uartboot), or the host's, for a device.
- * All that it keeps is a record and memories, and the caller holds both: a fresh record begins a session, and each call
- * is lent the record as the last one left it, and the same memories with the same lengths. Nobody else writes these
+ * A session plays one end of the line: the chip's (the receiver, uartboot) for a host, or the host's for a device. All
+ * that it keeps is a record and memories, and the caller holds both: a fresh record begins a session, and each call is
+ * lent the record as the last one left it, and the same memories with the same lengths. Nobody else writes these
  * between calls. A host's memories are its command and the buffer for the answer.
  *
- * A call is shown bytes that came from the other end (input) and room for bytes to it (reply; a host's is the output).
- * Either may be empty. It takes and sends bytes until it cannot go on, and reports why (standing):
+ * A call is shown bytes that came from the other end (input) and room for bytes to it (reply, of a host output). Either
+ * may be empty. It takes and sends bytes until it cannot go on, and reports why (standing):
  *
  *     UND_WANTS_BYTE  it needs a byte, and all of the input is taken
  *     UND_WANTS_ROOM  it must send a byte, and the reply is full
@@ -554,7 +554,7 @@ und_report und_uartboot_call(uint32_t record[8], const uint8_t *input, size_t in
  *     17      is done, or was ended by the reason         all
  */
 
-/* Writes the record of a host that has a command to send, all eight words. */
+/* Writes the record of a new host, for one command, all eight words. */
 void und_host_fresh(uint32_t record[8]);
 
 /* A call to a host; see "Sessions". Where it reports UND_OVER, record[UND_RECORD_REASON] is 0 if the command is done;

@@ -1,6 +1,7 @@
 """The demo's commands to uartboot, against devices that do as they should and others that do not."""
 import os
 import signal
+import time
 
 import bench
 import model
@@ -101,14 +102,16 @@ class Commands(bench.Case):
             device.line.expect_nothing(0.05)
 
     def test_silent(self):
-        """All wait at the same time."""
+        """All wait at the same time; of the one that begins last it is seen how long."""
+        unfinished, _, _ = self.cut(len(STEPS) - 1, model.GREETING[:-1])
         waiting = [self.cut(place, b'') for place in range(len(STEPS))]
         waiting += [self.cut(place, STEPS[place][2][:-1]) for place in self.places('the greeting', *LONGER)]
-        last, _, _ = self.cut(len(STEPS) - 1, model.GREETING[:-1])
-        for device, name, due in waiting:
+        begun = time.monotonic()
+        for device, name, due in reversed(waiting):
             device.ends(bench.SILENT, 'silent: ', f'{due} did not come from monitor for 10 seconds ({name}: {effect(name, due)})')
+            self.assertGreater(time.monotonic() - begun, 9)
             device.line.expect_nothing(0.01)
-        last.ends(bench.FAILED, 'the monitor does not greet again')
+        unfinished.ends(bench.FAILED, 'the monitor does not greet again')
 
     def test_hung_up(self):
         for place in TAKEN:
