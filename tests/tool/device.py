@@ -17,6 +17,8 @@ COMMANDS = [
     (model.COPY, 'Copy to QSPI', model.copy_payload(model.RAM_FIRST + 0x400, 0x1800, 0x13000), b''),
 ]
 
+AFTER = 'greeting after the command'
+
 
 def steps_of(opcode, name, payload, answer):
     """A command from the device's side: the command's name, what is due, what it sends, what it takes after that."""
@@ -29,11 +31,13 @@ def steps_of(opcode, name, payload, answer):
 
 
 def all_steps():
-    """A command without an answer ends with the next greeting."""
-    steps = [step for command in COMMANDS for step in steps_of(*command)]
-    erase = [i for i, step in enumerate(steps) if step[0] == 'Erase QSPI'][-1]
-    steps[erase + 1] = ('Erase QSPI', 'greeting after the command', *steps[erase + 1][2:])
-    return steps + [('Copy to QSPI', 'greeting after the command', model.GREETING, b'')]
+    """The commands one after the other. One without an answer is done at the greeting with which the next begins."""
+    steps, undone = [], None
+    for opcode, name, payload, answer in COMMANDS:
+        first, *others = steps_of(opcode, name, payload, answer)
+        steps += [(undone, AFTER, *first[2:]) if undone else first, *others]
+        undone = None if answer else name
+    return steps + [(undone, AFTER, model.GREETING, b'')]
 
 
 STEPS = all_steps()

@@ -5,14 +5,14 @@ import time
 
 import bench
 import model
-from device import STEPS, Device
+from device import AFTER, STEPS, Device
 from host import NAK
 
 # What is due before a command can have been carried out; of one without a payload only the greeting.
 BEFORE = {'the greeting', 'answer to the header', 'answer to the payload', "payload's CRC"}
 
 # Where one certain byte is due first, and where more than one is.
-SINGLE = BEFORE - {"payload's CRC"} | {"answer to the answer's CRC", 'greeting after the command'}
+SINGLE = BEFORE - {"payload's CRC"} | {"answer to the answer's CRC", AFTER}
 LONGER = {"payload's CRC", "answer's length", 'the answer'}
 
 # Steps after which the device has taken something, so that the demo is known to wait.
