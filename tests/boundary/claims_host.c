@@ -100,6 +100,18 @@ static void fresh(void)
         HOLD(record[i] == 0);
 }
 
+/* A call does not look at words that the phase does not use, and leaves 0 there. */
+static void unused_words(void)
+{
+    begin(UND_OP_CHIP_ERASE, 0, 0);
+    record[UND_RECORD_OPCODE] = record[UND_RECORD_LENGTH] = record[UND_RECORD_HELD] = record[UND_RECORD_WORDS - 1] = 5;
+    record[UND_RECORD_REASON] = 77;
+    SHOW(0x02);
+    HOLD(sent_nothing(UND_WANTS_BYTE, 1) && record[UND_RECORD_PLACE] == 1 && record[UND_RECORD_REASON] == 77);
+    HOLD(record[UND_RECORD_OPCODE] == 0 && record[UND_RECORD_LENGTH] == 0);
+    HOLD(record[UND_RECORD_HELD] == 0 && record[UND_RECORD_WORDS - 1] == 0);
+}
+
 /* With an answer: the greeting's middle bytes may be any, the buffer's bytes past the answer stay, and the next
    greeting is left. */
 static void answered(void)
@@ -193,6 +205,7 @@ int main(void)
     lengths();
     order_of_refusals();
     fresh();
+    unused_words();
     answered();
     left();
     ended();
