@@ -1,6 +1,7 @@
 """A device of the tests' own, to which the demo's commands go in place of its monitor."""
 import os
 import pty
+import signal
 import subprocess
 import tty
 
@@ -52,12 +53,14 @@ class Device:
         case.addCleanup(os.close, theirs)
         words = preload.environment(case, 'other_port', DEVICE=os.ttyname(theirs), TMPDIR=case.folder)
         pipes = {'stdin': subprocess.DEVNULL, 'stdout': subprocess.PIPE, 'stderr': subprocess.PIPE}
-        self.process = subprocess.Popen([bench.PROGRAM, 'demo'], env=words, **pipes)
+        self.process = subprocess.Popen([bench.PROGRAM, 'demo'], env=words, start_new_session=True, **pipes)
         case.addCleanup(self.stop)
 
     def stop(self):
-        self.process.kill()
-        self.process.communicate()
+        """The demo, if it has not ended, and the monitor that it has started."""
+        if self.process.poll() is None:
+            os.killpg(self.process.pid, signal.SIGKILL)
+            self.process.communicate()
 
     def play(self, steps):
         for _, _, sends, takes in steps:
