@@ -10,6 +10,7 @@
 #define STEEPEST 1.25
 
 #define SESSION session_prepare, session_library, session_plain, session_same
+#define HOST host_prepare, host_library, host_plain, host_same
 
 static const subject subjects[] = {
     {"CRC-16", 65535, WITH_TABLE, 0, 0, crc_prepare, crc16_library, crc16_plain, crc_same},
@@ -24,6 +25,8 @@ static const subject subjects[] = {
     {"Read, pieces of 64", 65535, WITH_TABLE, 64, READ, SESSION},
     {"Read QSPI", 65535, WITH_TABLE, 0, READ_QSPI, SESSION},
     {"Read QSPI, pieces of 64", 65535, WITH_TABLE, 64, READ_QSPI, SESSION},
+    {"Host Write", 65535, WITH_TABLE, 0, WRITE, HOST},
+    {"Host Read", 65535, WITH_TABLE, 0, READ, HOST},
     {"Select of two images", 131072, WITH_TABLE | WITH_ZLIB, 0, 0, slot_prepare, slot_library, slot_plain, slot_same},
     {"Rank of versions", 1024, 0, 0, 0, version_prepare, version_library, version_plain, version_same},
 };

@@ -15,7 +15,7 @@ typedef struct subject {
     size_t full;     /* its largest size, in bytes or versions */
     unsigned beside; /* the further workers */
     size_t piece;    /* sessions: how many bytes a call is shown and has room for; 0: all */
-    unsigned opcode; /* uartboot: the command; 0: the ROM's receiver */
+    unsigned opcode; /* uartboot and its host: the command; 0: the ROM's receiver */
     void (*prepare)(const struct subject *s, size_t size);
     void (*library)(const struct subject *s);
     void (*plain)(const struct subject *s);

@@ -14,7 +14,7 @@ enum { KIND, PHASE, OPCODE, LENGTH, PLACE, HELD, REASON, CRC };
 #define RAM_BASE 0x07FC0000u
 
 /* The bytes of the line. */
-enum { SOH = 0x01, STX = 0x02, ACK = 0x06, NAK = 0x15 };
+enum { SOH = 0x01, STX = 0x02, ETX = 0x03, ACK = 0x06, NAK = 0x15 };
 
 /* What the routines below copy and sum with: memcpy and the bitwise CRCs, unless the bench puts others in their
    place. */
@@ -44,5 +44,9 @@ void plain_uartboot_fresh(uint32_t record[8]);
 und_report plain_uartboot_call(uint32_t record[8], const uint8_t *input, size_t input_len, uint8_t *reply,
                                size_t reply_len, uint8_t *ram, size_t ram_len, uint8_t *flash, size_t flash_len,
                                uint8_t *work, size_t work_len);
+void plain_host_fresh(uint32_t record[8]);
+und_report plain_host_call(uint32_t record[8], uint32_t opcode, const uint8_t *payload, size_t payload_len,
+                           const uint8_t *input, size_t input_len, uint8_t *output, size_t output_len, uint8_t *answer,
+                           size_t answer_len);
 
 #endif

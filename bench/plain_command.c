@@ -12,7 +12,7 @@ uint32_t plain_number32(const uint8_t *b)
     return b[0] | (uint32_t)b[1] << 8 | (uint32_t)b[2] << 16 | (uint32_t)b[3] << 24;
 }
 
-static size_t number16(const uint8_t *b)
+size_t plain_number16(const uint8_t *b)
 {
     return (size_t)b[0] | (size_t)b[1] << 8;
 }
@@ -58,7 +58,7 @@ typedef struct {
 
 static demands demands_of(uint32_t opcode, size_t length, const uint8_t *work)
 {
-    size_t first = plain_number32(work), count = number16(work + 4);
+    size_t first = plain_number32(work), count = plain_number16(work + 4);
     switch (opcode) {
     case WRITE: return (demands){length - 4, first, length - 4, 0, 0, 0};
     case READ: return (demands){count, first, count, 0, 0, count};

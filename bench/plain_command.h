@@ -24,5 +24,6 @@ uint32_t plain_check(uint32_t opcode, size_t length, const plain_memories *m);
 /* Executes it after the same checks. *answer is set to the answer's length. */
 uint32_t plain_execute(uint32_t opcode, size_t length, const plain_memories *m, size_t *answer);
 uint32_t plain_number32(const uint8_t *b);
+size_t plain_number16(const uint8_t *b);
 
 #endif

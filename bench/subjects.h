@@ -35,4 +35,9 @@ void session_library(const subject *s);
 void session_plain(const subject *s);
 int session_same(void);
 
+void host_prepare(const subject *s, size_t size);
+void host_library(const subject *s);
+void host_plain(const subject *s);
+int host_same(void);
+
 #endif
