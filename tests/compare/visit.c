@@ -124,7 +124,7 @@ static void expect(const visit *v, ending *e, model_memories *memories)
     e->capacity = e->sent = whole.sent;
     e->taken = whole.taken;
     e->reason = whole.reason;
-    e->runs = whole.runs;
+    e->runs = whole.over;
     e->address = whole.address;
 }
 

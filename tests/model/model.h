@@ -74,9 +74,9 @@ model_image_header model_make_image_header(const uint8_t *code, size_t length, u
 model_product_header model_make_product_header(uint32_t first, uint32_t second);
 
 /* Sessions. A record is eight words. */
-enum { KIND_P, KIND_E, KIND_UARTBOOT };
+enum { KIND_P, KIND_E, KIND_UARTBOOT, KIND_HOST };
 enum { WORD_KIND, WORD_PHASE, WORD_OPCODE, WORD_LENGTH, WORD_PLACE, WORD_HELD, WORD_REASON, WORD_SPARE, WORDS };
-enum { WANTS_BYTE = 1, WANTS_ROOM = 2, RUNS = 3 };
+enum { WANTS_BYTE = 1, WANTS_ROOM = 2, RUNS = 3, OVER = 3 }; /* OVER is the host's */
 enum {
     RAM_BASE = 0x07FC0000,
     MOST_RAM = 131072,
@@ -88,7 +88,7 @@ enum {
 enum { ACK = 0x06, NAK = 0x15 };
 
 typedef struct {
-    uint8_t *ram, *flash, *work; /* the receiver has RAM alone */
+    uint8_t *ram, *flash, *work; /* the receiver has RAM alone, the host its answer buffer alone, as `work` */
     size_t ram_length, flash_length, work_length;
 } model_memories;
 
@@ -144,17 +144,33 @@ bool model_has_answer(uint32_t opcode);
 uint32_t model_judge(uint32_t opcode, uint32_t length, const model_memories *memories);
 model_outcome model_execute(uint32_t opcode, uint32_t length, const model_memories *memories);
 
+/* The host's end of uartboot. A command as the host is lent it: */
+typedef struct {
+    uint32_t opcode;
+    uint8_t *payload;
+    size_t length;
+} model_request;
+
+/* 71 where the command is not one of the table, else 0. */
+uint32_t model_judge_request(const model_request *request);
+/* How many bytes of answer a command of the table must get; 0 where it has none. */
+uint32_t model_awaited(const model_request *request);
+model_report model_host_call(uint32_t record[WORDS], model_line *line, const model_request *request,
+                             const model_memories *memories);
+
 /* The whole stream at once, with room for every reply, from a fresh session: no phases, no record. */
 typedef struct {
     uint8_t *replies;
     size_t taken, sent;
     uint32_t reason;
-    bool runs;
+    bool over;        /* code runs, or the host's command is done or ended */
     uint32_t address; /* where code runs; 0 if none does */
 } model_ending;
 
-/* Writes the memories. The caller frees `replies`. */
+/* Both write the memories. The caller frees `replies`. The host's request and answer buffer are accepted ones. */
 model_ending model_uncut(uint32_t kind, const uint8_t *stream, size_t length, const model_memories *memories);
+model_ending model_uncut_host(const model_request *request, const uint8_t *stream, size_t length,
+                              const model_memories *memories);
 
 /* The boot frame. */
 typedef struct {

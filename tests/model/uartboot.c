@@ -76,14 +76,6 @@ static uint32_t header_reason(uint32_t opcode, uint64_t length, size_t work_leng
     return length > work_length ? 13 : 0;
 }
 
-/* Each part of the flow gives a call's standing, or 0 once it has set the phase that comes next. */
-
-static uint32_t go_on(uint32_t *s, uint32_t phase)
-{
-    s[WORD_PHASE] = phase;
-    return 0;
-}
-
 static uint32_t refuse(uint32_t *s, uint32_t reason)
 {
     s[WORD_REASON] = reason;

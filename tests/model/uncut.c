@@ -47,7 +47,7 @@ static unsigned take_both(visit *v)
 
 static void run(visit *v, uint32_t address)
 {
-    v->ending.runs = true;
+    v->ending.over = true;
     v->ending.address = address;
 }
 
@@ -155,7 +155,7 @@ model_ending model_uncut(uint32_t kind, const uint8_t *stream, size_t length, co
     v->length = length;
     v->memories = memories;
     if (setjmp(v->over) == 0)
-        while (!v->ending.runs)
+        while (!v->ending.over)
             kind == KIND_UARTBOOT ? command(v) : load(v, kind);
     model_ending ending = v->ending;
     free(v);
