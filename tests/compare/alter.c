@@ -5,35 +5,61 @@
 
 #include <string.h>
 
-/* How many bytes at the front of RAM, or of the work buffer, the session still relies on. */
-static size_t relied_on(const desk *d, bool work)
+/* The memories that a caller writes to; a payload is a host's. */
+enum { RAM, WORK, FLASH, PAYLOAD };
+
+/* How many bytes at the front of a host's payload or answer buffer it still relies on. */
+static size_t host_relies_on(const desk *d, uint32_t which)
+{
+    uint32_t phase = d->model_record[WORD_PHASE];
+    if (which == PAYLOAD)
+        return phase >= 3 && phase <= 6 ? d->request.length : 0;
+    if (phase == 12)
+        return d->model_record[WORD_PLACE];
+    return phase == 13 || phase == 14 ? model_awaited(&d->request) : 0;
+}
+
+/* How many bytes at the front of a memory the session, or the host, still relies on. */
+static size_t relied_on(const desk *d, uint32_t which)
 {
     const uint32_t *r = d->model_record;
     uint32_t phase = r[WORD_PHASE];
-    if (work != (d->kind == KIND_UARTBOOT))
+    if (d->kind == KIND_HOST)
+        return host_relies_on(d, which);
+    if (which != (d->kind == KIND_UARTBOOT ? WORK : RAM))
         return 0;
-    if (phase == (work ? 6 : 7))
+    if (phase == (which == WORK ? 6 : 7))
         return r[WORD_PLACE];
-    return (work ? phase >= 7 && phase <= 16 : phase == 8) ? r[WORD_LENGTH] : 0;
+    return (which == WORK ? phase >= 7 && phase <= 16 : phase == 8) ? r[WORD_LENGTH] : 0;
 }
 
-static void note_altered(const desk *d, bool work, size_t place)
+static void note_altered(const desk *d, uint32_t which, size_t place)
 {
-    if (d->fresh && place < relied_on(d, work))
+    if (d->fresh && place < relied_on(d, which))
         seen(SEEN_ALTERED_P + d->kind, d->model_record[WORD_PHASE]);
+}
+
+static uint32_t which_memory(trial *t, uint32_t kind)
+{
+    if (kind == KIND_HOST)
+        return pick(t->c, 2) ? PAYLOAD : WORK;
+    return pick(t->c, kind == KIND_UARTBOOT ? 3 : 1);
 }
 
 static void alter_byte(trial *t, desk *d)
 {
-    uint32_t which = pick(t->c, d->kind == KIND_UARTBOOT ? 3 : 1);
-    uint8_t *library = which == 0 ? d->library.ram : which == 1 ? d->library.work : d->library.flash;
-    uint8_t *model = which == 0 ? d->model.ram : which == 1 ? d->model.work : d->model.flash;
-    size_t length = which == 0 ? d->model.ram_length : which == 1 ? d->model.work_length : d->model.flash_length;
+    uint32_t which = which_memory(t, d->kind);
+    uint8_t *const library[] = {d->library.ram, d->library.work, d->library.flash, d->library_request.payload};
+    uint8_t *const model[] = {d->model.ram, d->model.work, d->model.flash, d->request.payload};
+    const size_t lengths[] = {d->model.ram_length, d->model.work_length, d->model.flash_length, d->request.length};
+    size_t length = lengths[which];
+    if (length == 0)
+        return;
     size_t place = pick(t->c, once_in(t->c, 3) ? (uint32_t)length : length < 16 ? (uint32_t)length : 16);
     uint8_t byte = (uint8_t)pick(t->c, 256);
-    if (which < 2 && model[place] != byte)
-        note_altered(d, which == 1, place);
-    library[place] = model[place] = byte;
+    if (model[which][place] != byte)
+        note_altered(d, which, place);
+    library[which][place] = model[which][place] = byte;
     tell(t, "altered: memory %u, byte %zu is %02X\n", which, place, byte);
 }
 
@@ -47,7 +73,7 @@ static void alter_payload(trial *t, desk *d)
         plan_bad_count(t, &p, &d->model);
     size_t length = d->model_record[WORD_LENGTH] < p.length ? d->model_record[WORD_LENGTH] : p.length;
     if (memcmp(d->model.work, p.payload, length) != 0)
-        note_altered(d, true, 0);
+        note_altered(d, WORK, 0);
     memcpy(d->library.work, p.payload, length);
     memcpy(d->model.work, p.payload, length);
     tell_bytes(t, "altered: payload", p.payload, length);

@@ -1,4 +1,4 @@
-/* A session twice: the library's on lent memory, and the model's. Each call goes to both, and everything is
+/* A session, or a host, twice: the library's on lent memory, and the model's. Each call goes to both, and everything is
    compared. */
 #ifndef DESK_H
 #define DESK_H
@@ -10,6 +10,7 @@
 typedef struct {
     uint32_t kind;
     model_memories contents;
+    model_request request; /* a host's command */
     uint32_t record[WORDS];
     bool fresh; /* the record is a fresh one */
 } setting;
@@ -17,17 +18,23 @@ typedef struct {
 typedef struct {
     uint32_t kind;
     model_memories library, model;
-    uint32_t *record; /* the library's */
+    model_request library_request, request; /* a host's command; the second is the model's */
+    uint32_t *record;                       /* the library's */
     uint32_t model_record[WORDS];
     bool fresh;         /* it began at a fresh record */
     bool at_end;        /* where on its shelf memory is lent */
     bool null_if_empty; /* what is empty is lent as NULL */
 } desk;
 
+/* A session and a host can be called in turns; two sessions can't. */
 void desk_set(trial *t, desk *d, const setting *s);
 /* Shows `shown` bytes to both sessions and gives room for `room` bytes. Report and reply are the library's; the reply
    stays where it is until the next call. */
 model_report desk_call(trial *t, desk *d, const uint8_t *input, size_t shown, size_t room, const uint8_t **reply);
+
+/* The model's session, or host, of a kind. */
+model_report call_model(uint32_t kind, uint32_t record[WORDS], model_line *line, const model_request *request,
+                        const model_memories *memories);
 
 /* Memory for contents, as long as any length that is tried. One set for each use. */
 enum { FIRST_CONTENTS, LEAD_CONTENTS, EXPECTED_CONTENTS, CONTENTS };

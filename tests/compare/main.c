@@ -23,9 +23,12 @@ static const case_kind kinds[] = {
     {"product header", 1, product_header_case},
     {"frame", 4, frame_case},
     {"ROM stream", 8, rom_stream_case},
-    {"uartboot stream", 24, uartboot_stream_case},
-    {"ROM record", 16, rom_record_case},
-    {"uartboot record", 28, uartboot_record_case},
+    {"uartboot stream", 28, uartboot_stream_case},
+    {"ROM record", 18, rom_record_case},
+    {"uartboot record", 36, uartboot_record_case},
+    {"host stream", 14, host_stream_case},
+    {"host record", 18, host_record_case},
+    {"joined line", 6, joined_case},
     {"length", 2, length_case},
 };
 

@@ -1,5 +1,6 @@
 #include "met.h"
 
+#include "met_host.h"
 #include "met_ranges.h"
 #include "records.h"
 
@@ -108,13 +109,13 @@ static void meet_uartboot(meeting *met, const desk *d, uint8_t byte)
 /* A low byte of a length or of a CRC is any number in a given record. */
 static void meet_wide(meeting *met)
 {
-    if (met->before[WORD_HELD] > 255 && !is_running(met->before))
+    if (met->before[WORD_HELD] > 255 && !is_over(met->before))
         note(met, SEEN_WIDE_P + met->before[WORD_KIND], met->before[WORD_PHASE]);
 }
 
 static bool is_sound(const desk *d)
 {
-    setting s = {.kind = d->kind, .contents = d->model};
+    setting s = {.kind = d->kind, .contents = d->model, .request = d->request};
     memcpy(s.record, d->model_record, sizeof s.record);
     return is_accepted(&s);
 }
@@ -125,7 +126,7 @@ meeting meeting_before(const desk *d, const uint8_t *input, size_t shown, size_t
     memcpy(met.before, d->model_record, sizeof met.before);
     if (!is_sound(d))
         return met;
-    if (is_running(met.before) && shown && room)
+    if (is_over(met.before) && shown && room)
         note(&met, SEEN_RUNNING_SHOWN, d->kind);
     if (d->kind == KIND_UARTBOOT && met.before[WORD_PHASE] == 5 && met.before[WORD_LENGTH] == 0 && room)
         note(&met, d->fresh ? SEEN_EXECUTED : SEEN_EXECUTED_GIVEN, met.before[WORD_OPCODE]);
@@ -133,6 +134,8 @@ meeting meeting_before(const desk *d, const uint8_t *input, size_t shown, size_t
         meet_wide(&met);
         if (d->kind == KIND_UARTBOOT)
             meet_uartboot(&met, d, input[0]);
+        else if (d->kind == KIND_HOST)
+            meet_host(&met, d, input[0]);
         else
             met.executes = met.before[WORD_PHASE] == 9 && input[0] == ACK;
     }
@@ -143,9 +146,9 @@ static void note_reason(const meeting *met, const desk *d, const model_report *r
 {
     const uint32_t *record = d->model_record;
     uint32_t before = met->before[WORD_REASON], after = record[WORD_REASON];
-    bool waits = record[WORD_PHASE] == (d->kind == KIND_UARTBOOT ? 18 : 10);
+    static const uint32_t sends_15[] = {[KIND_P] = 10, [KIND_E] = 10, [KIND_UARTBOOT] = 18, [KIND_HOST] = 8};
     seen(SEEN_REASON, after);
-    if (waits)
+    if (record[WORD_PHASE] == sends_15[d->kind])
         seen(SEEN_REASON_BEFORE_15, after);
     if (before && before != after)
         seen(SEEN_REASON_REPLACED, after);
@@ -155,11 +158,14 @@ static void note_reason(const meeting *met, const desk *d, const model_report *r
 
 void meeting_after(const meeting *met, const desk *d, const model_report *r)
 {
-    static const seen_what phases[] = {[KIND_P] = SEEN_ROM_P, [KIND_E] = SEEN_ROM_E, [KIND_UARTBOOT] = SEEN_UARTBOOT};
+    static const seen_what numbers[] = {SEEN_ROM_NUMBER, SEEN_ROM_NUMBER, SEEN_UARTBOOT_NUMBER, SEEN_HOST_NUMBER};
+    static const seen_what phases[] = {SEEN_ROM_P, SEEN_ROM_E, SEEN_UARTBOOT, SEEN_HOST};
     const uint32_t *record = d->model_record;
-    seen(d->kind == KIND_UARTBOOT ? SEEN_UARTBOOT_NUMBER : SEEN_ROM_NUMBER, r->number);
+    seen(numbers[d->kind], r->number);
     for (int i = 0; i < met->count; i++)
         seen(met->notes[i].what, met->notes[i].number);
+    if (d->kind == KIND_HOST && r->number == 0)
+        met_host(met, d);
     if (r->number || !d->fresh)
         return;
     seen(SEEN_STANDING, r->standing);

@@ -12,7 +12,7 @@ static bool is_accepted_with(const setting *s, int word, uint32_t number)
 static void note_place(const setting *s, bool accepted)
 {
     uint32_t kind = s->record[WORD_KIND], phase = s->record[WORD_PHASE], place = s->record[WORD_PLACE];
-    uint32_t places = places_of(s->record);
+    uint32_t places = places_of(s->record, &s->request);
     if (!is_accepted_with(s, WORD_PLACE, 0))
         return;
     if (accepted && place == 0)
@@ -56,12 +56,12 @@ static bool is_refused_for(const setting *s, int word, uint32_t first, uint32_t 
 static void note_kind(const setting *s)
 {
     uint32_t kind = s->record[WORD_KIND], phase = s->record[WORD_PHASE];
-    bool unknown = s->kind == KIND_UARTBOOT ? kind != KIND_UARTBOOT : kind > KIND_E;
+    bool unknown = s->kind > KIND_E ? kind != s->kind : kind > KIND_E;
     if (unknown && is_accepted_with(s, WORD_KIND, s->kind))
         seen(SEEN_KIND_REFUSED, s->kind);
     if (kind == KIND_P && is_accepted_with(s, WORD_KIND, KIND_E))
         seen(SEEN_PHASE_OF_E, phase);
-    if (kind == s->kind && phase > running_phase(kind) && is_accepted_with(s, WORD_PHASE, 1))
+    if (kind == s->kind && phase > last_phase_of(kind) && is_accepted_with(s, WORD_PHASE, 1))
         seen(SEEN_PHASE_REFUSED, kind);
 }
 
@@ -95,19 +95,44 @@ static void note_longest(const setting *s)
         seen(SEEN_LENGTH_MOST_P + kind, phase);
 }
 
-void note_record(const setting *s)
+/* Words that a host does not use. */
+static void note_session(const setting *s, bool accepted)
 {
-    bool accepted = is_accepted(s);
-    note_place(s, accepted);
-    if (is_running(s->record)) {
+    if (is_over(s->record)) {
         note_address(s, accepted);
         note_opcode(s, accepted);
     }
     if (accepted) {
         note_longest(s);
     } else {
-        note_kind(s);
         note_length(s);
         note_command(s);
     }
+}
+
+/* A phase that the host's command does not have, for what it does not have. */
+static void note_phase(const setting *s)
+{
+    const model_request *q = &s->request;
+    uint32_t phase = s->record[WORD_PHASE];
+    if (phase > last_phase_of(KIND_HOST) || !is_accepted_with(s, WORD_PHASE, last_phase_of(KIND_HOST)))
+        return;
+    if (phase == 16)
+        seen(SEEN_PHASE_NO_GREETING, q->opcode);
+    else if (phase < 9)
+        seen(SEEN_PHASE_NO_PAYLOAD, phase);
+    else
+        seen(model_has_answer(q->opcode) ? SEEN_PHASE_EMPTY_ANSWER : SEEN_PHASE_NO_ANSWER, phase);
+}
+
+void note_record(const setting *s)
+{
+    bool accepted = is_accepted(s);
+    note_place(s, accepted);
+    if (!accepted)
+        note_kind(s);
+    if (s->kind != KIND_HOST)
+        note_session(s, accepted);
+    else if (!accepted)
+        note_phase(s);
 }

@@ -5,24 +5,37 @@
 
 #include <string.h>
 
-uint32_t places_of(const uint32_t record[WORDS])
+static uint32_t places_of_host(uint32_t phase, const model_request *request)
+{
+    switch (phase) {
+    case 0:
+    case 1: return 4;
+    case 3: return (uint32_t)request->length;
+    case 12: return model_awaited(request);
+    default: return 1;
+    }
+}
+
+uint32_t places_of(const uint32_t record[WORDS], const model_request *request)
 {
     bool uartboot = record[WORD_KIND] == KIND_UARTBOOT;
     uint32_t phase = record[WORD_PHASE];
+    if (record[WORD_KIND] == KIND_HOST)
+        return places_of_host(phase, request);
     if (uartboot && phase == 0)
         return 4;
     bool many = uartboot ? phase == 6 || phase == 14 : phase == 7;
     return many ? record[WORD_LENGTH] : 1;
 }
 
-uint32_t running_phase(uint32_t kind)
+uint32_t last_phase_of(uint32_t kind)
 {
-    return kind == KIND_UARTBOOT ? 19 : 11;
+    return kind == KIND_HOST ? 17 : kind == KIND_UARTBOOT ? 19 : 11;
 }
 
-bool is_running(const uint32_t record[WORDS])
+bool is_over(const uint32_t record[WORDS])
 {
-    return record[WORD_PHASE] == running_phase(record[WORD_KIND]);
+    return record[WORD_PHASE] == last_phase_of(record[WORD_KIND]);
 }
 
 static uint32_t any_number(trial *t, const model_memories *m)
@@ -37,7 +50,8 @@ static uint32_t any_number(trial *t, const model_memories *m)
 /* One that the phase has; or one of the first, or at its end; or any. */
 static uint32_t draw_place(trial *t, const setting *s)
 {
-    uint32_t places = places_of(s->record), edges[] = {0, 1, places - 1, places, places + 1}, how = pick(t->c, 6);
+    uint32_t places = places_of(s->record, &s->request), edges[] = {0, 1, places - 1, places, places + 1},
+             how = pick(t->c, 6);
     if (how < 3)
         return pick(t->c, places < 24 || once_in(t->c, 2) ? places : 24);
     return how < 5 ? PICK_OF(t->c, edges) : any_number(t, &s->contents);
@@ -102,12 +116,26 @@ static void draw_address(trial *t, setting *s)
         s->record[WORD_HELD] = PICK_OF(t->c, edges);
 }
 
+/* A host's low byte of the payload's CRC, or of the answer's length: the right one, all of the number, or what makes
+   it up with a high byte past 2^32. */
+static void draw_low_byte(trial *t, setting *s)
+{
+    const model_request *q = &s->request;
+    if (model_judge_request(q))
+        return;
+    uint32_t number = s->record[WORD_PHASE] == 6 ? model_crc16(q->payload, q->length) : model_awaited(q);
+    uint32_t helds[] = {number % 256, number, number - 256 * pick(t->c, 256)};
+    s->record[WORD_HELD] = PICK_OF(t->c, helds);
+}
+
 /* Opcode, length and held as the phase has them, mostly. */
 static void draw_step(trial *t, setting *s)
 {
     bool uartboot = s->kind == KIND_UARTBOOT;
     uint32_t phase = s->record[WORD_PHASE];
-    if (phase == running_phase(s->kind)) {
+    if (s->kind == KIND_HOST) {
+        draw_low_byte(t, s);
+    } else if (phase == last_phase_of(s->kind)) {
         draw_run(t, s);
         draw_address(t, s);
     } else if (!uartboot) {
@@ -119,19 +147,21 @@ static void draw_step(trial *t, setting *s)
     }
 }
 
-static uint32_t draw_phase(trial *t, const setting *s, uint32_t last)
+/* Mostly one that the kind has, sometimes the one after them. */
+static uint32_t draw_phase(trial *t, const setting *s)
 {
+    uint32_t last = last_phase_of(s->kind);
     if (once_in(t->c, 20))
         return any_number(t, &s->contents);
-    return once_in(t->c, 10) ? running_phase(s->kind) : pick(t->c, last + 1);
+    return once_in(t->c, 10) ? last : pick(t->c, last + 2);
 }
 
-void draw_record(trial *t, setting *s, uint32_t last_phase)
+void draw_record(trial *t, setting *s)
 {
     uint32_t *r = s->record;
     const model_memories *m = &s->contents;
     r[WORD_KIND] = once_in(t->c, 20) ? any_number(t, m) : s->kind;
-    r[WORD_PHASE] = draw_phase(t, s, last_phase);
+    r[WORD_PHASE] = draw_phase(t, s);
     r[WORD_OPCODE] = any_number(t, m);
     r[WORD_LENGTH] = any_number(t, m);
     r[WORD_HELD] = once_in(t->c, 2) ? pick(t->c, 256) : any_number(t, m);
@@ -147,7 +177,5 @@ bool is_accepted(const setting *s)
     uint32_t record[WORDS];
     model_line nothing = {0};
     memcpy(record, s->record, sizeof record);
-    model_report r = s->kind == KIND_UARTBOOT ? model_uartboot_call(record, &nothing, &s->contents)
-                                              : model_rom_call(record, &nothing, &s->contents);
-    return r.number == 0;
+    return call_model(s->kind, record, &nothing, &s->request, &s->contents).number == 0;
 }

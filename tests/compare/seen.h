@@ -10,11 +10,11 @@ typedef enum {
     /* numbers, by what gave them */
     SEEN_RANK_NUMBER, SEEN_ORDER_NUMBER, SEEN_SELECT_NUMBER, SEEN_OFFER_NUMBER,
     SEEN_FRAME_P_NUMBER, SEEN_FRAME_E_NUMBER, SEEN_ROM_NUMBER, SEEN_UARTBOOT_NUMBER,
-    SEEN_PRODUCT_NUMBER, SEEN_COMMAND_NUMBER, SEEN_IMAGE_HEADER_NUMBER,
+    SEEN_PRODUCT_NUMBER, SEEN_COMMAND_NUMBER, SEEN_IMAGE_HEADER_NUMBER, SEEN_HOST_NUMBER,
     /* rules that images broke, and opcodes whose payload was read */
     SEEN_RULE, SEEN_COMMAND_OPCODE,
-    /* what sessions reached from a fresh record */
-    SEEN_STANDING, SEEN_REASON, SEEN_ROM_P, SEEN_ROM_E, SEEN_UARTBOOT, SEEN_OPCODE,
+    /* what sessions and hosts reached from a fresh record */
+    SEEN_STANDING, SEEN_REASON, SEEN_ROM_P, SEEN_ROM_E, SEEN_UARTBOOT, SEEN_HOST, SEEN_OPCODE,
     /* headers from a fresh record, by opcode: accepted; with too few bytes, too many, more than the work buffer has
        too, or that alone; unknown ones, 1 where they have more bytes than the work buffer */
     SEEN_HEADER_ACCEPTED, SEEN_HEADER_SHORT, SEEN_HEADER_LONG, SEEN_HEADER_LONG_ABOVE, SEEN_HEADER_ABOVE,
@@ -35,21 +35,22 @@ typedef enum {
     /* payloads by opcode that are refused at execution: altered since they were accepted, or given with the record */
     SEEN_AGAIN_14, SEEN_AGAIN_15, SEEN_AGAIN_16, SEEN_AGAIN_17, SEEN_AGAIN_21,
     SEEN_GIVEN_14, SEEN_GIVEN_15, SEEN_GIVEN_16, SEEN_GIVEN_17, SEEN_GIVEN_21,
-    /* by phase: what the session had taken, or was to send, was altered between two calls */
-    SEEN_ALTERED_P, SEEN_ALTERED_E, SEEN_ALTERED_UARTBOOT,
+    /* by phase: what the session or the host had taken, or was to send, was altered between two calls */
+    SEEN_ALTERED_P, SEEN_ALTERED_E, SEEN_ALTERED_UARTBOOT, SEEN_ALTERED_HOST,
     /* the host's CRC of an answer: 1 its low byte is wrong, 2 its high byte, 3 both */
     SEEN_HOST_CRC,
     /* reasons that the record has before there is room for their 15, and that replace another; by kind, a reason that
        success leaves */
     SEEN_REASON_BEFORE_15, SEEN_REASON_REPLACED, SEEN_REASON_KEPT,
-    /* by kind: bytes and room for a session whose code runs; by phase: a low byte of any size in a given record */
-    SEEN_RUNNING_SHOWN, SEEN_WIDE_P, SEEN_WIDE_E, SEEN_WIDE_UARTBOOT,
+    /* by kind: bytes and room for a session whose code runs, or a host that is over; by phase: a low byte of any size
+       in a given record */
+    SEEN_RUNNING_SHOWN, SEEN_WIDE_P, SEEN_WIDE_E, SEEN_WIDE_UARTBOOT, SEEN_WIDE_HOST,
     /* given records by phase: accepted with the first and with the last place, refused for a place at the end or beyond
        it alone */
-    SEEN_FIRST_PLACE_P, SEEN_FIRST_PLACE_E, SEEN_FIRST_PLACE_UARTBOOT,
-    SEEN_LAST_PLACE_P, SEEN_LAST_PLACE_E, SEEN_LAST_PLACE_UARTBOOT,
-    SEEN_PLACE_AT_END_P, SEEN_PLACE_AT_END_E, SEEN_PLACE_AT_END_UARTBOOT,
-    SEEN_PLACE_BEYOND_P, SEEN_PLACE_BEYOND_E, SEEN_PLACE_BEYOND_UARTBOOT,
+    SEEN_FIRST_PLACE_P, SEEN_FIRST_PLACE_E, SEEN_FIRST_PLACE_UARTBOOT, SEEN_FIRST_PLACE_HOST,
+    SEEN_LAST_PLACE_P, SEEN_LAST_PLACE_E, SEEN_LAST_PLACE_UARTBOOT, SEEN_LAST_PLACE_HOST,
+    SEEN_PLACE_AT_END_P, SEEN_PLACE_AT_END_E, SEEN_PLACE_AT_END_UARTBOOT, SEEN_PLACE_AT_END_HOST,
+    SEEN_PLACE_BEYOND_P, SEEN_PLACE_BEYOND_E, SEEN_PLACE_BEYOND_UARTBOOT, SEEN_PLACE_BEYOND_HOST,
     /* given records refused for one word alone: for the kind, by the session that was called; for the phase, by kind;
        for a phase that only E has; by phase for an opcode that is unknown or another command's, for a length that is 0,
        above its memory or another command's; accepted with the longest length */
@@ -63,6 +64,29 @@ typedef enum {
     SEEN_ADDRESS_REFUSED_P, SEEN_ADDRESS_REFUSED_E, SEEN_ADDRESS_REFUSED_UARTBOOT,
     /* the same by opcode, 0 for all that are unknown */
     SEEN_RUNNING_ACCEPTED, SEEN_RUNNING_REFUSED,
+    /* a host's commands by opcode: with a payload of another length, of 65,535 bytes, of 65,536; unknown ones, 1 where
+       they have more than 8 bits; answer buffers one byte short, exact, longer; causes of refusal that come together */
+    SEEN_REQUEST_OTHER, SEEN_REQUEST_MOST, SEEN_REQUEST_ABOVE, SEEN_REQUEST_STRANGE,
+    SEEN_BUFFER_SHORT, SEEN_BUFFER_EXACT, SEEN_BUFFER_LONGER, SEEN_CAUSES,
+    /* a host's records refused for a phase alone that its command does not have: by phase, without a payload, without
+       an answer, with an answer of 0 bytes; by opcode, where no greeting is looked for */
+    SEEN_PHASE_NO_PAYLOAD, SEEN_PHASE_NO_ANSWER, SEEN_PHASE_EMPTY_ANSWER, SEEN_PHASE_NO_GREETING,
+    /* bytes that end a host's command by phase, 1 for the greeting's last: 15 and others; 15 in the greeting's middle,
+       by place */
+    SEEN_ENDED_73, SEEN_ENDED_75, SEEN_GREETING_15,
+    /* a number's bytes from the device, 1 its low byte is wrong, 2 its high byte, 3 both: the payload's CRC, the
+       answer's length, that of an answer of 0 bytes; a length 0 in place of another, 1 where that is above 255 */
+    SEEN_DEVICE_CRC, SEEN_LENGTH_BYTES, SEEN_LENGTH_BYTES_OF_0, SEEN_LENGTH_0,
+    /* a low length byte 15, 1 where it is the awaited one; then a high byte, 1 where that is wrong */
+    SEEN_LOW_15, SEEN_LENGTH_AFTER_15,
+    /* by phase: a held number above 255 that makes up the right number; makes it up past 2^32 alone; or with its low
+       byte alone */
+    SEEN_SUM_WIDE, SEEN_SUM_WRAPS, SEEN_SUM_CUT,
+    /* by opcode: commands done from a fresh record; done with a given reason kept; given reasons replaced */
+    SEEN_DONE, SEEN_DONE_KEPT, SEEN_ENDED_REPLACED,
+    /* on a line between host and session: commands done by opcode, refused by reason; a further command after one that
+       was done (0) or refused (1) */
+    SEEN_JOINED_DONE, SEEN_JOINED_REFUSED, SEEN_JOINED_AGAIN,
     SEENS
 } seen_what;
 /* clang-format on */
@@ -80,6 +104,9 @@ typedef enum {
 /* How a range lies: wholly in its memory, with its first byte outside, or past the end. A Copy has one in RAM, which
    counts three times, and one in flash. */
 typedef enum { LIES_INSIDE, LIES_OUTSIDE, LIES_PAST_END, LIES } seen_lies;
+
+/* Causes of which the first is given. */
+typedef enum { CAUSES_71_72, CAUSES_71_4, CAUSES_72_4 } seen_causes;
 
 void seen(seen_what what, uint32_t number);
 /* Forgets all of it: what figures reached is not for cases to claim. */

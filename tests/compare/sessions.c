@@ -1,6 +1,9 @@
-/* Cases of sessions: streams from a fresh record, given records, refused lengths. */
+/* Cases of sessions and hosts: streams from a fresh record, given records, refused lengths. */
+#include "sessions.h"
+
 #include "fill.h"
 #include "records.h"
+#include "requests.h"
 #include "streams.h"
 #include "undalisho.h"
 #include "visit.h"
@@ -26,7 +29,7 @@ static size_t work_length(trial *t)
     return once_in(t->c, 8) ? PICK_OF(t->c, edges) : 64 + pick(t->c, 300);
 }
 
-static model_memories first_memories(trial *t, uint32_t kind)
+model_memories first_memories(trial *t, uint32_t kind)
 {
     size_t ram = ram_length(t), flash = 0, work = 0;
     if (kind == KIND_UARTBOOT) {
@@ -40,18 +43,25 @@ static model_memories first_memories(trial *t, uint32_t kind)
     return m;
 }
 
-/* A fresh record of the library's own, on words that held something else. */
-static void fresh(trial *t, bool uartboot, uint32_t kind, uint32_t record[WORDS])
+/* On words that held something else. A receiver's has any kind that is given. */
+static void fresh(trial *t, uint32_t session, uint32_t kind, uint32_t record[WORDS])
 {
     uint32_t want[WORDS];
     memset(record, 0xEE, sizeof want);
     model_fresh(kind, want);
-    if (uartboot)
+    if (session == KIND_HOST)
+        und_host_fresh(record);
+    else if (session == KIND_UARTBOOT)
         und_uartboot_fresh(record);
     else
         und_rom_fresh(kind, record);
     if (memcmp(record, want, sizeof want) != 0)
         differ(t, "fresh record of kind %u", kind);
+}
+
+void fresh_record(trial *t, uint32_t kind, uint32_t record[WORDS])
+{
+    fresh(t, kind, kind, record);
 }
 
 static void set_stream(visit *v, const stream *s)
@@ -61,76 +71,104 @@ static void set_stream(visit *v, const stream *s)
     v->length = s->length;
 }
 
-/* Makes a stream by following the session from a visit's start. */
-static void make_stream(trial *t, visit *v, stream *s, uint32_t rounds)
+/* Follows the session, or the host, from a visit's start. */
+static void follow(trial *t, const visit *v, stream *s, uint32_t rounds)
 {
     uint32_t record[WORDS];
     model_memories lead = contents_of(LEAD_CONTENTS, 0, 0, 0);
     copy_contents(&lead, &v->start.contents);
     memcpy(record, v->start.record, sizeof record);
-    if (v->start.kind == KIND_UARTBOOT)
+    if (v->start.kind == KIND_HOST)
+        play_host(t, s, record, &v->start.request, &lead);
+    else if (v->start.kind == KIND_UARTBOOT)
         play_uartboot(t, s, record, &lead, rounds);
     else
         play_rom(t, s, record, &lead, rounds);
     spoil(t, s);
+}
+
+/* Where the start is refused, the stream has any bytes. */
+static void make_stream(trial *t, visit *v, stream *s, uint32_t rounds)
+{
+    if (is_accepted(&v->start))
+        follow(t, v, s, rounds);
+    else
+        for (uint32_t left = pick(t->c, 20); left > 0; left--)
+            stream_add(s, (uint8_t)pick(t->c, 256));
     set_stream(v, s);
 }
 
-static void stream_case(trial *t, uint32_t kind)
+/* What is lent to a session, or to a host. */
+static void draw_lent(trial *t, setting *s)
+{
+    if (s->kind == KIND_HOST)
+        draw_request(t, s);
+    else
+        s->contents = first_memories(t, s->kind);
+}
+
+static void stream_case(trial *t, uint32_t kind, uint32_t most_rounds)
 {
     stream s = {0};
     visit v = {.start.kind = kind, .start.fresh = true};
-    v.start.contents = first_memories(t, kind);
-    fresh(t, kind == KIND_UARTBOOT, kind, v.start.record);
+    draw_lent(t, &v.start);
+    fresh_record(t, kind, v.start.record);
+    if (kind == KIND_HOST)
+        note_request(&v.start);
     v.alters = draw_alters(t, kind);
-    make_stream(t, &v, &s, 1 + pick(t->c, kind == KIND_UARTBOOT ? 8 : 4));
+    make_stream(t, &v, &s, 1 + pick(t->c, most_rounds));
     visit_run(t, &v);
     free(s.bytes);
 }
 
 void rom_stream_case(trial *t)
 {
-    stream_case(t, pick(t->c, 2));
+    stream_case(t, pick(t->c, 2), 4);
 }
 
 void uartboot_stream_case(trial *t)
 {
-    stream_case(t, KIND_UARTBOOT);
+    stream_case(t, KIND_UARTBOOT, 8);
 }
 
-static void record_case(trial *t, uint32_t kind, uint32_t last_phase)
+void host_stream_case(trial *t)
+{
+    stream_case(t, KIND_HOST, 1);
+}
+
+static void record_case(trial *t, uint32_t kind)
 {
     stream s = {0};
     visit v = {.start.kind = kind};
-    v.start.contents = first_memories(t, kind);
-    draw_record(t, &v.start, last_phase);
+    draw_lent(t, &v.start);
+    draw_record(t, &v.start);
     note_record(&v.start);
+    if (kind == KIND_HOST)
+        note_request(&v.start);
     const uint32_t *r = v.start.record;
     tell(t, "record: %u %u %u %u %u %u %u %u\n", r[0], r[1], r[2], r[3], r[4], r[5], r[6], r[7]);
     v.alters = draw_alters(t, kind);
-    if (is_accepted(&v.start)) {
-        make_stream(t, &v, &s, pick(t->c, 3));
-    } else {
-        for (uint32_t left = pick(t->c, 20); left > 0; left--)
-            stream_add(&s, (uint8_t)pick(t->c, 256));
-        set_stream(&v, &s);
-    }
+    make_stream(t, &v, &s, pick(t->c, 3));
     visit_run(t, &v);
     free(s.bytes);
 }
 
 void rom_record_case(trial *t)
 {
-    /* A receiver's fresh record has any kind that is given. */
     static const uint32_t strange[] = {2, 3, 255, 256, 65536, 0xFFFFFFFF};
     uint32_t record[WORDS];
-    fresh(t, false, PICK_OF(t->c, strange), record);
-    record_case(t, pick(t->c, 2), 12);
+    fresh(t, KIND_P, PICK_OF(t->c, strange), record);
+    record_case(t, pick(t->c, 2));
 }
 
 void uartboot_record_case(trial *t)
 {
-    record_case(t, KIND_UARTBOOT, 20);
+    record_case(t, KIND_UARTBOOT);
+}
+
+void host_record_case(trial *t)
+{
+    record_case(t, KIND_HOST);
 }
 
 /* A length at or past its bounds, or any up to the last. */

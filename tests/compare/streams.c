@@ -2,54 +2,7 @@
 
 #include "fill.h"
 
-#include <stdlib.h>
 #include <string.h>
-
-/* A session that is followed while its stream is made: it always has room. */
-typedef struct {
-    trial *t;
-    stream *s;
-    uint32_t *record;
-    const model_memories *memories;
-} lead;
-
-void stream_add(stream *s, uint8_t byte)
-{
-    if (s->length == s->capacity) {
-        s->capacity = s->capacity * 2 + 256;
-        s->bytes = realloc(s->bytes, s->capacity);
-        if (!s->bytes)
-            abort();
-    }
-    s->bytes[s->length++] = byte;
-}
-
-static void play_all(lead *g, const uint8_t *bytes, size_t count)
-{
-    static uint8_t replies[70000];
-    model_line line = {bytes, count, 0, replies, sizeof replies, 0};
-    for (size_t i = 0; i < count; i++)
-        stream_add(g->s, bytes[i]);
-    if (g->record[WORD_KIND] == KIND_UARTBOOT)
-        model_uartboot_call(g->record, &line, g->memories);
-    else
-        model_rom_call(g->record, &line, g->memories);
-}
-
-static void play(lead *g, uint32_t byte)
-{
-    uint8_t b = (uint8_t)byte;
-    play_all(g, &b, 1);
-}
-
-/* Mostly the right byte. */
-static uint32_t or_other(trial *t, uint32_t right, uint32_t one_in)
-{
-    static const uint8_t others[] = {0x15, 0x01, 0x00, 0x02, 0x06, 0xFF};
-    if (!once_in(t->c, one_in))
-        return right;
-    return once_in(t->c, 2) ? pick(t->c, 256) : PICK_OF(t->c, others);
-}
 
 /* A length for the receiver's header: 0 to 131,071. */
 static uint32_t plan_load(trial *t, const model_memories *m)
@@ -81,7 +34,7 @@ static void play_code(lead *g)
 
 void play_rom(trial *t, stream *s, uint32_t record[WORDS], const model_memories *memories, uint32_t loads)
 {
-    lead g = {t, s, record, memories};
+    lead g = {t, s, record, NULL, memories};
     play_all(&g, NULL, 0);
     while (loads > 0 && record[WORD_PHASE] != 11) {
         switch (record[WORD_PHASE]) {
@@ -230,7 +183,7 @@ static void play_on(lead *g)
 
 void play_uartboot(trial *t, stream *s, uint32_t record[WORDS], const model_memories *memories, uint32_t commands)
 {
-    lead g = {t, s, record, memories};
+    lead g = {t, s, record, NULL, memories};
     play_all(&g, NULL, 0);
     while (record[WORD_PHASE] != 19) {
         if (record[WORD_PHASE] != 1) {

@@ -2,16 +2,14 @@
 #ifndef STREAMS_H
 #define STREAMS_H
 
-#include "desk.h"
-
-typedef struct {
-    uint8_t *bytes;
-    size_t length, capacity;
-} stream;
+#include "lead.h"
 
 /* Follows a session from its record and memories (which it writes), and appends what a host might send to it. */
 void play_rom(trial *t, stream *s, uint32_t record[WORDS], const model_memories *memories, uint32_t loads);
 void play_uartboot(trial *t, stream *s, uint32_t record[WORDS], const model_memories *memories, uint32_t commands);
+/* Follows a host whose command and answer buffer are accepted, and appends what a device might send to it. */
+void play_host(trial *t, stream *s, uint32_t record[WORDS], const model_request *request,
+               const model_memories *memories);
 
 /* Damage that no session asked for: an end in the middle, a wrong byte, more bytes at the end. */
 void spoil(trial *t, stream *s);
@@ -34,6 +32,5 @@ void plan_payload(trial *t, planned *p, const model_memories *memories);
 void plan_bad_count(trial *t, planned *p, const model_memories *memories);
 /* Mostly a command that they admit. */
 void plan_command(trial *t, planned *p, const model_memories *memories);
-void stream_add(stream *s, uint8_t byte);
 
 #endif

@@ -29,6 +29,9 @@ void rom_stream_case(trial *t);
 void uartboot_stream_case(trial *t);
 void rom_record_case(trial *t);
 void uartboot_record_case(trial *t);
+void host_stream_case(trial *t);
+void host_record_case(trial *t);
+void joined_case(trial *t);
 void length_case(trial *t);
 
 /* Notes a difference; the first one stays. */

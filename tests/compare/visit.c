@@ -13,7 +13,7 @@ typedef struct {
     uint8_t *replies;
     size_t capacity, taken, sent;
     uint32_t record[WORDS];
-    bool has_record, runs;
+    bool has_record, over;
     uint32_t reason, address;
 } ending;
 
@@ -37,20 +37,51 @@ static void append(ending *e, const uint8_t *bytes, size_t count)
     e->sent += count;
 }
 
-/* A call with one thing wrong: a length, or the record. It is refused, and all is as before. */
-static void refused_call(trial *t, desk *d, const uint8_t *input, size_t left)
+/* The record's kind; an answer buffer that is one byte short, where there is an answer; or the opcode, which is then
+   unknown, or has no payload of this length. */
+static void spoil_host(trial *t, desk *d, uint32_t what)
+{
+    static const uint32_t strange[] = {0x00, 0x06, 0x13, 0x105, 0x80000001};
+    uint32_t awaited = model_judge_request(&d->request) ? 0 : model_awaited(&d->request);
+    uint32_t other = d->request.length ? OP_VERSION : OP_WRITE;
+    if (what == 0)
+        d->record[WORD_KIND] = d->model_record[WORD_KIND] = pick(t->c, KIND_HOST);
+    else if (what == 1 && awaited)
+        d->library.work_length = d->model.work_length = awaited - 1;
+    else
+        d->library_request.opcode = d->request.opcode = once_in(t->c, 2) ? other : PICK_OF(t->c, strange);
+}
+
+static void spoil_length(desk *d, uint32_t what)
+{
+    if (what == 0)
+        d->library.ram_length = d->model.ram_length = 0;
+    else if (what == 1)
+        d->library.flash_length = d->model.flash_length /= 4097;
+    else
+        d->library.work_length = d->model.work_length %= LEAST_WORK;
+}
+
+static void spoil_call(trial *t, desk *d)
+{
+    uint32_t places = places_of(d->model_record, &d->request), what = pick(t->c, d->kind > KIND_E ? 5 : 3);
+    if (what == 0)
+        d->record[WORD_PHASE] = d->model_record[WORD_PHASE] = 200 + pick(t->c, 9);
+    else if (what == 1)
+        d->record[WORD_PLACE] = d->model_record[WORD_PLACE] = places + pick(t->c, 3);
+    else if (d->kind == KIND_HOST)
+        spoil_host(t, d, what - 2);
+    else
+        spoil_length(d, what - 2);
+}
+
+void refused_call(trial *t, desk *d, const uint8_t *input, size_t left)
 {
     desk before = *d;
     uint32_t record[WORDS];
     const uint8_t *reply;
     memcpy(record, d->record, sizeof record);
-    switch (pick(t->c, d->kind == KIND_UARTBOOT ? 5 : 3)) {
-    case 0: d->record[WORD_PHASE] = d->model_record[WORD_PHASE] = 200 + pick(t->c, 9); break;
-    case 1: d->record[WORD_PLACE] = d->model_record[WORD_PLACE] = places_of(d->model_record) + pick(t->c, 3); break;
-    case 2: d->library.ram_length = d->model.ram_length = 0; break;
-    case 3: d->library.flash_length = d->model.flash_length /= 4097; break;
-    default: d->library.work_length = d->model.work_length %= LEAST_WORK; break;
-    }
+    spoil_call(t, d);
     model_report got = desk_call(t, d, input, left < 9 ? left : 9, 9, &reply);
     if (got.number == 0)
         differ(t, "a call that must be refused was accepted");
@@ -62,7 +93,8 @@ static void refused_call(trial *t, desk *d, const uint8_t *input, size_t left)
 static size_t most_calls(const visit *v)
 {
     const model_memories *m = &v->start.contents;
-    size_t calls = (24u << 20) / (m->ram_length + m->flash_length + m->work_length + 1024);
+    size_t lent = m->ram_length + m->flash_length + m->work_length + v->start.request.length;
+    size_t calls = (24u << 20) / (lent + 1024);
     return calls < 12 ? 12 : calls;
 }
 
@@ -93,9 +125,9 @@ static void run_cut(trial *t, const visit *v, desk *d, const cut *how, ending *e
         over = got.number != 0 || got.standing == RUNS || (got.standing == WANTS_BYTE && e->taken == v->length);
     }
     memcpy(e->record, d->record, sizeof e->record);
-    e->runs = is_running(e->record);
+    e->over = is_over(e->record);
     e->reason = e->record[WORD_REASON];
-    e->address = e->runs ? e->record[WORD_HELD] : 0;
+    e->address = e->over ? e->record[WORD_HELD] : 0;
     e->has_record = true;
 }
 
@@ -104,7 +136,7 @@ static void same_ending(trial *t, const ending *got, const desk *d, const ending
     same_number(t, "all taken", got->taken, want->taken);
     same_number(t, "all sent", got->sent, want->sent);
     same_number(t, "last reason", got->reason, want->reason);
-    same_number(t, "running", got->runs, want->runs);
+    same_number(t, "over", got->over, want->over);
     same_number(t, "address at which code runs", got->address, want->address);
     if (!differs(t))
         same_bytes(t, "joined replies", got->replies, want->replies, want->sent);
@@ -119,21 +151,15 @@ static void same_ending(trial *t, const ending *got, const desk *d, const ending
 static void expect(const visit *v, ending *e, model_memories *memories)
 {
     copy_contents(memories, &v->start.contents);
-    model_ending whole = model_uncut(v->start.kind, v->stream, v->length, memories);
+    model_ending whole = v->start.kind == KIND_HOST
+                             ? model_uncut_host(&v->start.request, v->stream, v->length, memories)
+                             : model_uncut(v->start.kind, v->stream, v->length, memories);
     e->replies = whole.replies;
     e->capacity = e->sent = whole.sent;
     e->taken = whole.taken;
     e->reason = whole.reason;
-    e->runs = whole.over;
+    e->over = whole.over;
     e->address = whole.address;
-}
-
-static bool lengths_accepted(const visit *v)
-{
-    const model_memories *m = &v->start.contents;
-    bool rest =
-        v->start.kind != KIND_UARTBOOT || (model_flash_length(m->flash_length) && model_work_length(m->work_length));
-    return rest && model_ram_length(m->ram_length);
 }
 
 static cut next_cut(trial *t, uint32_t round)
@@ -154,7 +180,7 @@ void visit_run(trial *t, const visit *v)
     tell_bytes(t, "stream", v->stream, v->length);
     model_memories expected = contents_of(EXPECTED_CONTENTS, 0, 0, 0);
     ending want = {0};
-    bool known = v->start.fresh && !v->alters && lengths_accepted(v);
+    bool known = v->start.fresh && !v->alters && is_accepted(&v->start);
     if (known)
         expect(v, &want, &expected);
     uint32_t rounds = 3 + pick(t->c, 3);

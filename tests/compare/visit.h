@@ -13,4 +13,7 @@ typedef struct {
 
 void visit_run(trial *t, const visit *v);
 
+/* A call with one thing wrong, which is shown some of the bytes that are left. It is refused, and all is as before. */
+void refused_call(trial *t, desk *d, const uint8_t *input, size_t left);
+
 #endif
