@@ -73,4 +73,6 @@ void run_figures(trial *t)
     load_figures(t);
     command_figures(t);
     range_figures(t);
+    talk_figures(t);
+    host_call_figures(t);
 }

@@ -6,7 +6,7 @@
 
 void run_figures(trial *t);
 
-/* Those of slots, and those of sessions, a file for each. */
+/* Those of slots, of sessions, and of hosts, a file for each. */
 void slot_figures(trial *t);
 void exchange_figures(trial *t);
 void refusal_figures(trial *t);
@@ -15,9 +15,15 @@ void record_figures(trial *t);
 void load_figures(trial *t);
 void command_figures(trial *t);
 void range_figures(trial *t);
+void talk_figures(trial *t);
+void host_call_figures(trial *t);
 
 /* A fresh session. RAM and work buffer hold 00, the flash F0. */
 setting setting_of(uint32_t kind, size_t ram_length, size_t flash_length, size_t work_length);
+
+/* A fresh host with a command; without bytes the payload has zeros, and stays until the next one is made. The answer
+   buffer holds EE. */
+setting host_setting(uint32_t opcode, const char *payload, size_t length, size_t answer_length);
 
 /* A host's bytes in one call: the device's bytes, and what the record then holds. */
 typedef struct {
