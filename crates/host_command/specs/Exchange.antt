@@ -1,5 +1,5 @@
 -- The command that a host is lent, and what the host knows from it: what comes after its execution, and how long its answer must be
--- (rules, 15.2).
+-- (rules, 15.1 and 15.2).
 -- Assumes nothing.
 use Prim.Native.Nat.{ℕ}
 use mathlib.Core.Bool.{cond}

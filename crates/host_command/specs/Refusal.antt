@@ -1,4 +1,4 @@
--- The refusals of a host's command (rules, 15.2): 71, then 72, before any byte is sent.
+-- The refusals of a host's command (rules, 2.1 and 15.2): 71, then 72, before any byte is sent.
 -- Assumes nothing.
 use Prim.Native.Nat.{ℕ}
 use mathlib.Core.Bool.{Bool, false, cond, not, _&&_}

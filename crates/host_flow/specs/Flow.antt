@@ -1,4 +1,4 @@
--- The host's flow (rules, 15.3 to 15.5). Each line says what a step does: it takes a byte, and the byte says where the flow goes, or it sends
+-- The host's flow (rules, 15.3 to 15.5), its reasons (rules, 2.2) and its end (rules, 15.1). Each line says what a step does: it takes a byte, and the byte says where the flow goes, or it sends
 -- a byte and goes on. That the last step leaves 02 untaken is stated in Host.
 -- Assumes nothing.
 use Prim.Native.Nat.{ℕ, _+_}
