@@ -13,7 +13,6 @@ use Rattle.machine.specs.declared.Record.{Record}
 use Rattle.machine.specs.declared.Report.{Report}
 use Rattle.machine.proofs.Results.{refused-length, refused-record, accepted-call}
 use Rattle.host_command.specs.declared.Exchange.{Exchange}
-use Rattle.host_command.specs.declared.Judged.{Judged}
 use Rattle.host_command.specs.declared.Judged.the-variants.{Accepted, Refused}
 use Rattle.host_command.specs.Exchange.{Lent, lent, exchangeOf, exchange}
 use Rattle.host_command.specs.Refusal.{refusalOf, judgedOf}

@@ -1,9 +1,7 @@
 -- Every record that calls can reach is accepted.
 -- Assumes nothing.
-use Prim.Native.Nat.{ℕ}
 use native.Mathlib.Omega.{arith}
-use mathlib.Core.Path.{_≡_, refl, sym, ap, subst, _∙_}
-use lib.ListN.{length}
+use mathlib.Core.Path.{_≡_, refl, sym, subst, _∙_}
 use Rattle.machine.specs.Lawful.{Any}
 use Rattle.machine.specs.Reach.{Reach}
 use Rattle.machine.specs.Session.{sound}

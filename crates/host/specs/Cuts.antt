@@ -2,7 +2,6 @@
 -- stream of bytes and every list of calls, the refused ones among them. Its lines are those of demand 3, stated in machine's Reach and
 -- SessionClaim over any session; "code runs" there is that the command is over.
 -- Assumes nothing.
-use Prim.Native.Nat.{ℕ}
 use mathlib.Core.Path.{_≡_}
 use lib.ListN.{length}
 use Rattle.wire.specs.Bytes.{Byte}

@@ -2,24 +2,22 @@
 -- Assumes nothing.
 use Prim.Native.Nat.{ℕ, _≤_, _<_}
 use native.Mathlib.Omega.{arith}
-use mathlib.Core.Path.{_≡_, refl, sym, ap, _∙_}
-use mathlib.Core.Bool.{Bool, true, false, cond, not, _&&_}
+use mathlib.Core.Path.{_≡_, refl, ap, _∙_}
+use mathlib.Core.Bool.{Bool, true, false, cond, not}
 use mathlib.Core.List.{List}
-use lib.Dec.{leb, ltb}
+use lib.Dec.{ltb}
 use lib.ListN.{length}
 use borrow.Author.Tests.{lt-ltb, le-ltb, ltb-false, le-leb, lt-leb}
 use Rattle.numbers.specs.Number.{lowByte}
 use Rattle.opcodes.specs.declared.Opcode.{Opcode}
 use Rattle.opcodes.specs.declared.Opcode.the-variants.{Write, Read, Copy, Erase, Run, ReadQspi, Version, ChipErase, DirectWrite}
-use Rattle.opcodes.specs.declared.Lookup.{Lookup}
-use Rattle.opcodes.specs.declared.Lookup.the-variants.{Known, Unknown}
+use Rattle.opcodes.specs.declared.Lookup.the-variants.{Known}
 use Rattle.opcodes.specs.Opcode.{opcodeNumber, opcodeOf, hasLength}
 use Rattle.opcodes.proofs.Opcodes.{opcode-number}
 use Rattle.host_command.specs.declared.Follows.{Follows}
-use Rattle.host_command.specs.declared.Judged.{Judged}
 use Rattle.host_command.specs.declared.Judged.the-variants.{Accepted, Refused}
 use Rattle.host_command.specs.declared.Exchange.{Exchange}
-use Rattle.host_command.specs.Exchange.{Lent, lent, followsCommand, followsLookup, exchangeOf, exchange, awaitedOf, awaited}
+use Rattle.host_command.specs.Exchange.{Lent, lent, followsCommand, exchangeOf, exchange, awaitedOf, awaited}
 use Rattle.host_command.specs.Refusal.{badCommand, shortAnswer, longestPayload, isCommand, refusalOf, judgedOf}
 
 -- an opcode's number has one byte

@@ -13,7 +13,7 @@ use Rattle.machine.specs.Machine.{runs}
 use Rattle.machine.specs.Does.{Does, takes, sends, needOf, tookOf, lineOf}
 use Rattle.machine.specs.Does as does-of
 use Rattle.machine.specs.History.{Event}
-use Rattle.machine.specs.Lawful.{Every, Kept, Lawful}
+use Rattle.machine.specs.Lawful.{Kept, Lawful}
 use Rattle.machine.specs.Leaving.{LeavesLast}
 use Rattle.machine.proofs.Doing.{Leaves, Counted, does-lawful, does-kept, leaves-weaken}
 use Rattle.machine.proofs.Leavings.{leaving-lawful}

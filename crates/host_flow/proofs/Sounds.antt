@@ -2,11 +2,11 @@
 -- Assumes nothing.
 use Prim.Native.Nat.{ℕ, _+_, _<_}
 use native.Mathlib.Omega.{arith}
-use mathlib.Core.Path.{_≡_, refl, sym, ap, _∙_}
+use mathlib.Core.Path.{_≡_, refl, _∙_}
 use mathlib.Core.Bool.{true, cond, not}
-use mathlib.Core.List.{List, []}
+use mathlib.Core.List.{[]}
 use lib.Dec.{eqb, ltb}
-use lib.ListN.{length, drop, set, length-set}
+use lib.ListN.{length-set}
 use lib.Seq.{drop-set-lt}
 use borrow.Author.Tests.{ltb-true, eqb-true, eqb-false, not-true}
 use Rattle.wire.specs.Line.{stx, ack, nak}
@@ -16,13 +16,13 @@ use Rattle.machine.proofs.Doing.{Leaves}
 use Rattle.host_command.specs.declared.Follows.{Follows}
 use Rattle.host_command.specs.declared.Follows.the-variants.{Answers, Runs, Greets}
 use Rattle.host_command.specs.declared.Exchange.{Exchange}
-use Rattle.host_command.specs.Exchange.{Lent, exchange, awaitedOf, awaited}
+use Rattle.host_command.specs.Exchange.{Lent, exchange, awaited}
 use Rattle.host_command.specs.Refusal.{refusalOf}
 use Rattle.host_flow.specs.declared.step.Step.{Step}
 use Rattle.host_flow.specs.declared.step.Step.the-variants.{TakeGreeting, SendHeader, TakeHeaderAck, SendPayload, TakePayloadAck, TakeCrcLow, TakeCrcHigh, SendGo, SendNak, TakeLengthLow, TakeLengthHigh, SendAnswerGo, TakeAnswer, SendCrcLow, SendCrcHigh, TakeLastAck, Look, Over}
 use Rattle.host_flow.specs.State.{State, state}
-use Rattle.host_flow.specs.Flow.{deviceRefused, deviceCrc, outOfFlow, etx, greetingLength, headerLength, payloadCrc, behind, headed, refusesAnswer, isAwaited, stored, goes, ends, expected, doesAt, does}
-use Rattle.host_flow.specs.Sound.{HasAnswer, SoundStep, Ready}
+use Rattle.host_flow.specs.Flow.{deviceRefused, deviceCrc, outOfFlow, etx, greetingLength, headerLength, payloadCrc, behind, headed, refusesAnswer, isAwaited, stored, expected, doesAt, does}
+use Rattle.host_flow.specs.Sound.{SoundStep, Ready}
 use Rattle.host_flow.specs.Stays.{OnlyAnswer}
 
 -- a sound state, and of what was lent at first only answer bytes have changed

@@ -4,7 +4,6 @@ use Prim.Native.Nat.{ℕ, _≤_, _<_}
 use mathlib.Core.Path.{_≡_}
 use mathlib.Core.Bool.{false}
 use mathlib.Core.List.{List}
-use lib.ListN.{length}
 use Rattle.machine.specs.Does.{takes, sends}
 use Rattle.machine.specs.Steps.{Taken, Sent}
 use Rattle.host_command.specs.declared.Exchange.{Exchange}

@@ -1,7 +1,7 @@
 -- Worked exchanges of a host (rules, 15.8): what the definition gives for a command and the device's bytes.
 -- Assumes nothing.
 use Prim.Native.Nat.{ℕ}
-use mathlib.Core.List.{List, [], _∷_, _++_, map}
+use mathlib.Core.List.{List, [], _∷_, _++_}
 use lib.ListN.{replicate}
 use Rattle.machine.specs.Uncut.{uncut}
 use Rattle.host_command.specs.Exchange.{Lent, lent}

@@ -10,7 +10,7 @@ use lib.ListN.{length, take, drop, getD, set, length-set, length-drop, take-appe
 use lib.Seq.{drop-cons, take-suc-set, drop-set-lt, drop-drop, length-take-le}
 use borrow.Author.Tests.{lt-ltb, le-ltb}
 use Rattle.machine.specs.Machine as machine
-use Rattle.machine.specs.Machine.{Need, acts, runs, Machine, line}
+use Rattle.machine.specs.Machine.{acts, runs, Machine}
 use Rattle.machine.specs.Outcome.{halt, acted, join}
 use Rattle.machine.specs.Call.{standing, call}
 use Rattle.machine.specs.Lawful.{Lawful}

@@ -1,7 +1,6 @@
 -- `host_command::follows_of`: by the opcode's row.
 -- Assumes nothing.
 use borrow.Author.Tests.{eq-eqb, ne-eqb}
-use native.Mathlib.Omega.{arith}
 use mathlib.Core.Path.{refl, sym, _∙_}
 use borrow.Author.Needs.{needs}
 use Rattle.host_command.proofs.follows_of.Statement.{statement}

@@ -2,8 +2,7 @@
 -- Assumes nothing.
 use Rattle.host_command.proofs.Commands.{no-command, unfit, long, cramped, taken}
 use borrow.Author.Tests.{not-true, not-false}
-use native.Mathlib.Omega.{arith}
-use mathlib.Core.Path.{refl, sym, ap, _∙_}
+use mathlib.Core.Path.{refl, sym, _∙_}
 use borrow.Author.Needs.{needs}
 use Rattle.host_command.proofs.judge.Statement.{statement}
 use Rattle.host_command.proofs.judge.Tie as tie

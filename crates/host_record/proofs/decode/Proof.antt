@@ -2,7 +2,6 @@
 -- Assumes nothing.
 use Rattle.host_record.specs.Record.{decodedOf}
 use borrow.Author.Tests.{eq-eqb, ne-eqb, lt-ltb, le-ltb}
-use mathlib.Core.Path.{refl, sym, ap, _∙_}
 use borrow.Author.Needs.{needs}
 use Rattle.host_record.proofs.decode.Statement.{statement}
 use Rattle.host_record.proofs.decode.Tie as tie

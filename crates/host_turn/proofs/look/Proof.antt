@@ -5,7 +5,7 @@ use Rattle.host_flow.specs.declared.step.Step.the-variants.{Over}
 use Rattle.host_command.specs.Exchange.{lent}
 use borrow.Author.Tests.{eq-eqb, ne-eqb}
 use mathlib.Core.List.{[]}
-use mathlib.Core.Path.{_≡_, refl, ap, _∙_}
+use mathlib.Core.Path.{_≡_, refl, ap}
 use borrow.Author.Needs.{needs}
 use Rattle.host_turn.proofs.look.Statement.{statement}
 use Rattle.host_turn.proofs.look.Tie as tie

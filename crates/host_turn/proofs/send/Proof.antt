@@ -3,7 +3,7 @@
 use Rattle.host_turn.proofs.Ones.{sends-one}
 use Rattle.host_command.specs.Exchange.{awaitedOf}
 use Rattle.host_command.specs.declared.Exchange.{Exchange}
-use mathlib.Core.Path.{refl, sym, ap, _∙_}
+use mathlib.Core.Path.{sym, ap, _∙_}
 use borrow.Author.Needs.{needs}
 use Rattle.host_turn.proofs.send.Statement.{statement}
 use Rattle.host_turn.proofs.send.Tie as tie
