@@ -522,7 +522,7 @@ und_report und_uartboot_call(uint32_t record[8], const uint8_t *input, size_t in
  *
  * 1. It takes the greeting, 02, any two bytes, 03. It sends 01, the opcode, the payload's length (2 bytes), takes 06.
  * 2. If there is a payload, it sends that, takes 06 and the device's CRC-16 of it (2 bytes), and sends 06 if the CRC is
- *    right. Else it sends 15, and reason 74 ends the command.
+ *    right. A wrong CRC is answered with 15, and reason 74 ends the command.
  * 3. Run is now done. For an answer it takes the length (2 bytes), sends 06, takes the answer into the buffer, from its
  *    first byte on, sends the answer's CRC-16 (2 bytes), takes 06, and is done. All other commands are done when the
  *    next greeting's 02 is shown. That byte is not taken.
@@ -557,8 +557,8 @@ und_report und_uartboot_call(uint32_t record[8], const uint8_t *input, size_t in
 /* Writes the record of a new host, for one command, all eight words. */
 void und_host_fresh(uint32_t record[8]);
 
-/* A call to a host; see "Sessions". Where it reports UND_OVER, record[UND_RECORD_REASON] is 0 if the command is done;
- * else it is the reason that has ended it.
+/* A call to a host; see "Sessions". Where it reports UND_OVER, record[UND_RECORD_REASON] is 0 if the command is done,
+ * from a record that was fresh; else it is the reason that has ended it.
  *
  * Number:  0
  *          71  the opcode is unknown, or payload_len is not a length that it has, or is above 65535

@@ -13,7 +13,8 @@ use Rattle.host_flow.specs.Due.{due}
 use Rattle.host_flow.specs.Host.{host}
 use Rattle.host_flow.specs.Fresh.{fresh}
 use Rattle.host_flow.specs.Sound.{Sound}
-use Rattle.host_flow.proofs.Laws.{lawful, Watched, watched}
+use Rattle.host_flow.proofs.Laws.{lawful}
+use Rattle.host_flow.proofs.Answers.{Watched, watched}
 use Rattle.host_record.specs.Record.{written}
 use Rattle.host_record.proofs.Records.{reads-back}
 use Rattle.host.specs.Session.{hostSession}
@@ -36,7 +37,7 @@ faithful =
       fresh-memories = λ c. refl;
       fits = λ s h. h .accepted;
       reads-back = λ s h. rw (reads-back (exchange (s .lent)) (s .step) (s .reason) (h .step-sound)) refl;
-      at-first = λ c e. record { ready = fresh-sound c e; others = tt };
+      at-first = λ c e. record { ready = fresh-sound c e; came = refl; placed = refl };
       kept = watched Byte;
     }
 
@@ -44,8 +45,8 @@ pub host-cuts : HostCuts
 host-cuts =
     record {
       reach = records-reached;
-      definition-ends = definition-ends hostSession faithful (λ events s w. w .others) one-by-one;
-      defined = session-claim hostSession faithful (λ events s w. w .others);
-      made = made-claim hostSession faithful (λ events s w. w .others);
+      definition-ends = definition-ends hostSession faithful (λ events s w. w .came) one-by-one;
+      defined = session-claim hostSession faithful (λ events s w. w .came);
+      made = made-claim hostSession faithful (λ events s w. w .came);
       takes-all = takes-all hostSession (lawful Byte) one-by-one;
     }

@@ -29,7 +29,7 @@ use Rattle.host_flow.specs.Sound.{Ready}
 use Rattle.host_flow.specs.Gives.{Looked}
 use Rattle.host_flow.specs.Ask.{TakesSo, SendsSo, Asked, FitsTaking, FitsSending, TakenSo, SentSo}
 use Rattle.host_flow.proofs.Asks.{taking-takes, sending-sends, fits-taking, fits-sending}
-use Rattle.host_flow.proofs.Sounds.{Held, only-same}
+use Rattle.host_flow.proofs.Sounds.{Held, same-lent}
 use Rattle.host_flow.proofs.Laws.{held}
 
 silent : (s : State) (a : ℕ) → host .says s (a ∷ []) ≡ []
@@ -50,7 +50,7 @@ look-few reason byte r l = rw (l .count-is) (in-cond (λ (k : ℕ). k ≤ 1) (eq
 
 module _ {x : Exchange} {first : Step} {reason₀ : ℕ} {payload answer₀ input old : List ℕ} where
   pub begins : exchangeOf (x .opcode) payload ≡ x → Ready first (lentTo x payload answer₀) → At x first reason₀ payload answer₀ input old first reason₀ answer₀ old 0 0
-  begins e h = record { known = e; turn = turn-begins host silent (held (lentTo x payload answer₀) Any) (record { ready = h; only = only-same (lentTo x payload answer₀) }) }
+  begins e h = record { known = e; turn = turn-begins host silent (held (lentTo x payload answer₀) Any) (record { ready = h; same = same-lent (lentTo x payload answer₀) }) }
 
   -- a look at the next byte, after which the command is over
   look-acted : {last : ℕ} {answer output : List ℕ} {i j : ℕ} → At x first reason₀ payload answer₀ input old step.Look last answer output i j → i < length input →
@@ -67,7 +67,7 @@ module _ {x : Exchange} {first : Step} {reason₀ : ℕ} {payload answer₀ inpu
     same-output = t .turn .reached .same-length
 
     pub same-answer : length answer ≡ length answer₀
-    same-answer = t .turn .keeps .only .same-length
+    same-answer = t .turn .keeps .same .same-length
 
     module _ (a : Ask) (asked : Asked a x s) where
       module _ (y : Taking) (e : a ≡ Take y) where

@@ -2,6 +2,7 @@
 -- (rules, 15.1 and 15.2).
 -- Assumes nothing.
 use Prim.Native.Nat.{ℕ}
+use mathlib.Core.Path.{_≡_}
 use mathlib.Core.Bool.{cond}
 use mathlib.Core.List.{List}
 use lib.ListN.{length}
@@ -23,6 +24,12 @@ pub record Lent : Type 0 where
 
 abbrev pub lent : (opcode : ℕ) (payload answer : List ℕ) → Lent
 lent opcode payload answer = record { opcode = opcode; payload = payload; answer = answer }
+
+-- the same command, and an answer buffer of the same length
+pub record SameLent (a b : Lent) : Type 0 where
+  pub same-opcode : a .opcode ≡ b .opcode
+  pub same-payload : a .payload ≡ b .payload
+  pub same-length : length (a .answer) ≡ length (b .answer)
 
 -- what comes after a command's execution: an answer, as long as the command says; nothing, since code runs; the next greeting
 abbrev pub followsCommand : Opcode → (payload : List ℕ) → Follows

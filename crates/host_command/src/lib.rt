@@ -70,7 +70,7 @@ fn follows_of(opcode: Opcode, payload: &[u8]) -> Follows
     Follows::Greets
 }
 
-// Judges a command that is lent with an answer buffer of `room` bytes.
+// Judges a command that is lent with a buffer for its answer.
 pub fn judge(number: u32, payload: &[u8], answer: &[u8]) -> Judged
     ensures { λ r. ⌜ r ≡ judgedOf (lent number (now (payload .entry)) (now (answer .entry))) ⌝ }
 {

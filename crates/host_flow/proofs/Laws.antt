@@ -1,21 +1,19 @@
--- The host is a lawful machine, and its actions change nothing of what is lent but the bytes of the answer.
+-- The host is a lawful machine.
 -- Assumes nothing.
 use Prim.Native.Nat.{ℕ, suc, _+_, _-_}
 use native.Mathlib.Omega.{arith}
 use mathlib.Core.Path.{_≡_, refl}
 use mathlib.Core.Bool.{Bool, true, false, _&&_}
-use mathlib.Core.List.{List, [], _∷_}
+use mathlib.Core.List.{[]}
 use lib.Dec.{eqb, ltb}
 use borrow.Author.Tests.{ltb-false}
 use Rattle.wire.specs.Line.{stx}
 use Rattle.wire.proofs.Tests.{in-cond}
 use Rattle.machine.specs.Machine.{runs}
-use Rattle.machine.specs.Does.{Does, takes, sends, needOf, tookOf, lineOf}
-use Rattle.machine.specs.Does as does-of
-use Rattle.machine.specs.History.{Event}
-use Rattle.machine.specs.Lawful.{Kept, Lawful}
+use Rattle.machine.specs.Does.{needOf, tookOf, lineOf}
+use Rattle.machine.specs.Lawful.{Lawful}
 use Rattle.machine.specs.Leaving.{LeavesLast}
-use Rattle.machine.proofs.Doing.{Leaves, Counted, does-lawful, does-kept, leaves-weaken}
+use Rattle.machine.proofs.Doing.{Leaves, Counted, does-lawful, leaves-weaken}
 use Rattle.machine.proofs.Leavings.{leaving-lawful}
 use Rattle.host_command.specs.declared.Follows.{Follows}
 use Rattle.host_command.specs.declared.Follows.the-variants.{Answers, Runs, Greets}
@@ -27,8 +25,7 @@ use Rattle.host_flow.specs.Flow.{headerLength, behind, doesAt, does}
 use Rattle.host_flow.specs.Due.{dueAt, due}
 use Rattle.host_flow.specs.Host.{isLook, leaves, host}
 use Rattle.host_flow.specs.Sound.{SoundStep, Sound}
-use Rattle.host_flow.specs.Stays.{OnlyAnswer, OthersStay}
-use Rattle.host_flow.proofs.Sounds.{Held, only-same, only-more, stays-held}
+use Rattle.host_flow.proofs.Sounds.{Held, same-lent, stays-held}
 
 behind-due : (c : Lent) (f : Follows) → dueAt c (behind f) ≡ 0
 behind-due c (Answers size) = refl
@@ -94,31 +91,9 @@ held c₀ Good =
 
 keeps-sound : (Good : ℕ → Type 0) (s : State) → Sound s → Leaves Good (λ _ t. Sound t) [] s (does s)
 keeps-sound Good s h =
-    leaves-weaken Good (Held (s .lent)) Sound [] s (does s) (λ t k. k .ready) (stays-held (s .lent) Good s (record { ready = h; only = only-same (s .lent) }))
+    leaves-weaken Good (Held (s .lent)) Sound [] s (does s) (λ t k. k .ready) (stays-held (s .lent) Good s (record { ready = h; same = same-lent (s .lent) }))
 
 pub lawful : (Good : ℕ → Type 0) → Lawful host Good Sound
 lawful Good =
     leaving-lawful leaves (lineOf does due) leaves-last
     (does-lawful does due Good Sound (keeps-sound Good) (λ s h. does-due (s .reason) (s .lent) (s .step) (h .step-sound)))
-
--- of the way so far: a sound state, and since each action on it only answer bytes have changed
-pub record Watched (events : List (Event ℕ State)) (s : State) : Type 0 where
-  pub ready : Sound s
-  pub others : OthersStay events s
-
-others-more : (events : List (Event ℕ State)) (s t : State) → OthersStay events s → OnlyAnswer (s .lent) (t .lent) → OthersStay events t
-others-more [] s t h o = tt
-others-more (e ∷ events) s t h o = (only-more (e .state .lent) (s .lent) (t .lent) (h .0) o, others-more events s t (h .1) o)
-
-pub watched : (Good : ℕ → Type 0) → Kept host Good Watched
-watched Good =
-    does-kept does due Good Watched (λ events s h.
-    go events s h (does s) (stays-held (s .lent) Good s (record { ready = h .ready; only = only-same (s .lent) })))
-  where
-    on : (events : List (Event ℕ State)) (s t : State) (view : List ℕ) → Watched events s → Held (s .lent) t → Watched (record { state = s; view = view } ∷ events) t
-    on events s t view h k = record { ready = k .ready; others = (k .only, others-more events s t (h .others) (k .only)) }
-
-    go : (events : List (Event ℕ State)) (s : State) → Watched events s → (d : Does ℕ State) → Leaves Good (λ _ t. Held (s .lent) t) [] s d → Leaves Good Watched events s d
-    go events s h (takes next) l = λ a g. on events s (next a) (a ∷ []) h (l a g)
-    go events s h (sends byte next) l = on events s next [] h l
-    go events s h does-of.runs l = tt

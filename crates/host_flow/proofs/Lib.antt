@@ -1,4 +1,5 @@
 pub mod Sounds
 pub mod Laws
+pub mod Answers
 pub mod Asks
 pub mod Figures

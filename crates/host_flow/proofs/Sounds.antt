@@ -1,4 +1,4 @@
--- Every action leaves a sound state, and what is lent but for the bytes of the answer.
+-- Every action leaves a sound state, the same command and an answer buffer of the same length.
 -- Assumes nothing.
 use Prim.Native.Nat.{ℕ, _+_, _<_}
 use native.Mathlib.Omega.{arith}
@@ -7,7 +7,6 @@ use mathlib.Core.Bool.{true, cond, not}
 use mathlib.Core.List.{[]}
 use lib.Dec.{eqb, ltb}
 use lib.ListN.{length-set}
-use lib.Seq.{drop-set-lt}
 use borrow.Author.Tests.{ltb-true, eqb-true, eqb-false, not-true}
 use Rattle.wire.specs.Line.{stx, ack, nak}
 use Rattle.wire.proofs.Tests.{in-cond, both-true}
@@ -16,31 +15,21 @@ use Rattle.machine.proofs.Doing.{Leaves}
 use Rattle.host_command.specs.declared.Follows.{Follows}
 use Rattle.host_command.specs.declared.Follows.the-variants.{Answers, Runs, Greets}
 use Rattle.host_command.specs.declared.Exchange.{Exchange}
-use Rattle.host_command.specs.Exchange.{Lent, exchange, awaited}
+use Rattle.host_command.specs.Exchange.{Lent, SameLent, exchange, awaited}
 use Rattle.host_command.specs.Refusal.{refusalOf}
 use Rattle.host_flow.specs.declared.step.Step.{Step}
 use Rattle.host_flow.specs.declared.step.Step.the-variants.{TakeGreeting, SendHeader, TakeHeaderAck, SendPayload, TakePayloadAck, TakeCrcLow, TakeCrcHigh, SendGo, SendNak, TakeLengthLow, TakeLengthHigh, SendAnswerGo, TakeAnswer, SendCrcLow, SendCrcHigh, TakeLastAck, Look, Over}
 use Rattle.host_flow.specs.State.{State, state}
 use Rattle.host_flow.specs.Flow.{deviceRefused, deviceCrc, outOfFlow, etx, greetingLength, headerLength, payloadCrc, behind, headed, refusesAnswer, isAwaited, stored, expected, doesAt, does}
 use Rattle.host_flow.specs.Sound.{SoundStep, Ready}
-use Rattle.host_flow.specs.Stays.{OnlyAnswer}
 
--- a sound state, and of what was lent at first only answer bytes have changed
+-- a sound state, with the command that was lent at first, and a buffer of that length
 pub record Held (c₀ : Lent) (s : State) : Type 0 where
   pub ready : Ready (s .step) (s .lent)
-  pub only : OnlyAnswer c₀ (s .lent)
+  pub same : SameLent (s .lent) c₀
 
-pub only-same : (c : Lent) → OnlyAnswer c c
-only-same c = record { same-opcode = refl; same-payload = refl; same-length = refl; others-stay = refl }
-
-pub only-more : (a b c : Lent) → OnlyAnswer a b → OnlyAnswer b c → OnlyAnswer a c
-only-more a b c x y =
-    record {
-      same-opcode = y .same-opcode ∙ x .same-opcode;
-      same-payload = y .same-payload ∙ x .same-payload;
-      same-length = y .same-length ∙ x .same-length;
-      others-stay = rw (x .same-opcode, x .same-payload) at (y .others-stay) ∙ x .others-stay;
-    }
+pub same-lent : (c : Lent) → SameLent c c
+same-lent c = record { same-opcode = refl; same-payload = refl; same-length = refl }
 
 behind-sound : (x : Exchange) (f : Follows) → x .follows ≡ f → SoundStep x (behind f)
 behind-sound x (Answers size) e = rw e tt
@@ -57,9 +46,9 @@ length-some size wanted e =
     omega (arith, eqb-true size wanted (both .0), eqb-false size 0 (not-true (eqb size 0) (both .1)))
 
 module _ (c₀ : Lent) where
-  module _ (reason : ℕ) (c : Lent) (ok : refusalOf c ≡ 0) (only : OnlyAnswer c₀ c) where
+  module _ (reason : ℕ) (c : Lent) (ok : refusalOf c ≡ 0) (same : SameLent c c₀) where
     at : (step : Step) (why : ℕ) → SoundStep (exchange c) step → Held c₀ (state step why c)
-    at step why h = record { ready = record { accepted = ok; step-sound = h }; only = only }
+    at step why h = record { ready = record { accepted = ok; step-sound = h }; same = same }
 
     expected-held : (awaits byte : ℕ) (next : Step) → SoundStep (exchange c) next → Held c₀ (expected reason c awaits byte next)
     expected-held awaits byte next h =
@@ -69,14 +58,12 @@ module _ (c₀ : Lent) where
     unfolding refusalOf
     stored-accepted place byte = rw (length-set (c .answer) place byte) ok
 
-    stored-only : (place byte : ℕ) → place < awaited c → OnlyAnswer c₀ (stored place byte c)
-    stored-only place byte h =
-        let here : place < awaited c₀ = rw (only .same-opcode, only .same-payload) at h in
+    stored-same : (place byte : ℕ) → SameLent (stored place byte c) c₀
+    stored-same place byte =
         record {
-          same-opcode = only .same-opcode;
-          same-payload = only .same-payload;
-          same-length = length-set (c .answer) place byte ∙ only .same-length;
-          others-stay = drop-set-lt (awaited c₀) (c .answer) place byte here ∙ only .others-stay;
+          same-opcode = same .same-opcode;
+          same-payload = same .same-payload;
+          same-length = length-set (c .answer) place byte ∙ same .same-length;
         }
 
     module _ (Good : ℕ → Type 0) where
@@ -108,9 +95,9 @@ module _ (c₀ : Lent) where
           in-cond (λ (x : Step). Held c₀ (state x reason (stored place byte c))) (ltb (place + 1) (awaited c)) _ _
           (λ t. record {
             ready = record { accepted = stored-accepted place byte; step-sound = ltb-true (place + 1) (awaited c) t };
-            only = stored-only place byte h;
+            same = stored-same place byte;
           })
-          (λ t. record { ready = record { accepted = stored-accepted place byte; step-sound = omega (arith, h) }; only = stored-only place byte h })
+          (λ t. record { ready = record { accepted = stored-accepted place byte; step-sound = omega (arith, h) }; same = stored-same place byte })
       does-held SendCrcLow h = at SendCrcHigh reason h
       does-held SendCrcHigh h = at TakeLastAck reason h
       does-held TakeLastAck h = λ byte g. expected-held ack byte Over tt
@@ -118,4 +105,4 @@ module _ (c₀ : Lent) where
       does-held Over h = tt
 
   pub stays-held : (Good : ℕ → Type 0) (s : State) → Held c₀ s → Leaves Good (λ _ t. Held c₀ t) [] s (does s)
-  stays-held Good s h = does-held (s .reason) (s .lent) (h .ready .accepted) (h .only) Good (s .step) (h .ready .step-sound)
+  stays-held Good s h = does-held (s .reason) (s .lent) (h .ready .accepted) (h .same) Good (s .step) (h .ready .step-sound)

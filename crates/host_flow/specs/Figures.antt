@@ -76,10 +76,11 @@ figures =
     -- a run is done at the host's own 06
     ∷ figure (lent 0x05 runPayload []) (greeting ++ (0x06 ∷ 0x06 ∷ 0x8B ∷ 0xA2 ∷ []))
     (outcome (0x01 ∷ 0x05 ∷ 0x04 ∷ 0x00 ∷ (runPayload ++ (0x06 ∷ []))) 8 0 [])
-    -- 15 for the greeting's 02, for the header's 06, for the next greeting; another byte in their places
+    -- 15 for the greeting's 02, for the header's 06, for the next greeting's 02; another byte in place of each
     ∷ figure eraseCommand (0x15 ∷ []) (outcome [] 1 deviceRefused [])
     ∷ figure eraseCommand (0x99 ∷ greeting) (outcome [] 1 outOfFlow [])
     ∷ figure eraseCommand (greeting ++ (0x15 ∷ greeting)) (outcome (0x01 ∷ 0x0C ∷ 0x00 ∷ 0x00 ∷ []) 5 deviceRefused [])
+    ∷ figure eraseCommand (greeting ++ (0x02 ∷ [])) (outcome (0x01 ∷ 0x0C ∷ 0x00 ∷ 0x00 ∷ []) 5 outOfFlow [])
     ∷ figure eraseCommand (greeting ++ (0x06 ∷ 0x15 ∷ greeting)) (outcome (0x01 ∷ 0x0C ∷ 0x00 ∷ 0x00 ∷ []) 6 deviceRefused [])
     ∷ figure eraseCommand (greeting ++ (0x06 ∷ 0x03 ∷ [])) (outcome (0x01 ∷ 0x0C ∷ 0x00 ∷ 0x00 ∷ []) 6 outOfFlow [])
     -- a low length byte 15 that is awaited, and one that is not

@@ -1,5 +1,5 @@
--- The host's flow (rules, 15.3 to 15.5), its reasons (rules, 2.2) and its end (rules, 15.1). Each line says what a step does: it takes a byte, and the byte says where the flow goes, or it sends
--- a byte and goes on. That the last step leaves 02 untaken is stated in Host.
+-- The host's flow (rules, 15.3 to 15.5), its reasons (rules, 2.2) and its end (rules, 15.1). Each line says what a step does: it takes a
+-- byte, and the byte says where the flow goes, or it sends a byte and goes on. That a look leaves 02 untaken is stated in Host.
 -- Assumes nothing.
 use Prim.Native.Nat.{ℕ, _+_}
 use mathlib.Core.Bool.{Bool, cond, not, _&&_}
@@ -64,7 +64,7 @@ behind Greets = Look
 abbrev pub headed : Exchange → Step
 headed x = cond (eqb (x .size) 0) (behind (x .follows)) (SendPayload 0)
 
--- `count` of the payload's bytes are sent, of the answer's bytes are in
+-- `count` of the payload's bytes are sent; `count` of the answer's bytes are in
 abbrev pub paid : (size count : ℕ) → Step
 paid size count = cond (ltb count size) (SendPayload count) TakePayloadAck
 
@@ -115,6 +115,7 @@ module _ (reason : ℕ) (c : Lent) where
   abbrev pub answered : (place byte : ℕ) → State
   answered place byte = state (collected (awaited c) (place + 1)) reason (stored place byte c)
 
+  -- once it is over no action is left
   abbrev pub doesAt : Step → Does ℕ State
   doesAt (TakeGreeting place) = takes (λ byte. greeted place byte)
   doesAt (SendHeader place) = sends (headerByte (exchange c) place) (goes (cond (ltb (place + 1) headerLength) (SendHeader (place + 1)) TakeHeaderAck))

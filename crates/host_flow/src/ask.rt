@@ -15,8 +15,10 @@ use wire::line::STX;
 // The last byte of a greeting.
 const ETX: u8 = 0x03;
 
-// The place of the last byte of a greeting, and of a header.
-const LAST: u32 = 3;
+// How many bytes a greeting and a header have.
+pub const GREETING_BYTES: u32 = 4;
+
+pub const HEADER_BYTES: u32 = 4;
 
 // A byte that has to be this one, and the step that follows it; any byte, and the step that follows; the low byte of the device's CRC,
 // and its high byte with the low one; the low byte of an answer's length, and its high byte with the low one; answer bytes, with the
@@ -53,7 +55,7 @@ fn ask_greeting(x: Exchange, place: u32) -> Ask
     if place == 0 {
         return Ask::Take(Taking::Awaited(STX, Step::TakeGreeting(1)));
     }
-    if place < LAST {
+    if place < GREETING_BYTES - 1 {
         return Ask::Take(Taking::Any(Step::TakeGreeting(place + 1)));
     }
     Ask::Take(Taking::Awaited(ETX, Step::SendHeader(0)))
@@ -75,7 +77,7 @@ fn ask_header(x: Exchange, place: u32) -> Ask
     ensures { λ r. ⌜ Asked r x (Step.SendHeader place) ⌝ }
 {
     let byte = header_byte(x, place);
-    if place < LAST {
+    if place < HEADER_BYTES - 1 {
         Ask::Send(Sending::Byte(byte, Step::SendHeader(place + 1)))
     } else {
         Ask::Send(Sending::Byte(byte, Step::TakeHeaderAck))

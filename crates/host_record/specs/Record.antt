@@ -10,7 +10,7 @@ use Rattle.host_command.specs.declared.Follows.the-variants.{Answers, Runs, Gre
 use Rattle.host_command.specs.declared.Exchange.{Exchange}
 use Rattle.host_flow.specs.declared.step.Step.{Step}
 use Rattle.host_flow.specs.declared.step.Step.the-variants.{TakeGreeting, SendHeader, TakeHeaderAck, SendPayload, TakePayloadAck, TakeCrcLow, TakeCrcHigh, SendGo, SendNak, TakeLengthLow, TakeLengthHigh, SendAnswerGo, TakeAnswer, SendCrcLow, SendCrcHigh, TakeLastAck, Look, Over}
-use Rattle.host_flow.specs.Flow.{greetingLength}
+use Rattle.host_flow.specs.Flow.{greetingLength, headerLength}
 use Rattle.host_flow.specs.Fresh.{kindNumber}
 use Rattle.host_record.specs.declared.Numbers.{Numbers}
 use Rattle.host_record.specs.declared.Found.{Found}
@@ -93,13 +93,14 @@ placesBehind Greets phase = cond (eqb phase 16) 1 0
 -- how many places a phase has for a command: none where it is unknown, or not this command's
 unfoldable pub placesOf : Exchange → (phase : ℕ) → ℕ
 placesOf x phase =
-    cond (ltb phase 2) greetingLength
+    cond (eqb phase 0) greetingLength
+    (cond (eqb phase 1) headerLength
     (cond (eqb phase 2) 1
     (cond (eqb phase 3) (x .size)
     (cond (ltb phase 9) (onlyFirst (x .size))
     (cond (ltb phase 17) (placesBehind (x .follows) phase)
     (cond (eqb phase 17) 1
-    0)))))
+    0))))))
 
 -- what a record stands for, with this command
 unfoldable pub decodedOf : Exchange → Record → Found

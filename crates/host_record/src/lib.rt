@@ -3,6 +3,8 @@ ghost use mathlib.Core.Path.{_≡_};
 ghost use Rattle.host_record.specs.Record.{numbersOf, written, stepOf, onlyFirst, placesBehind, placesOf, decodedOf};
 use host_command::Exchange;
 use host_command::Follows;
+use host_flow::ask::GREETING_BYTES;
+use host_flow::ask::HEADER_BYTES;
 use host_flow::kind::Host;
 use host_flow::step::Step;
 use machine::Record;
@@ -137,8 +139,11 @@ fn places_behind(follows: Follows, phase: u32) -> u32
 fn places_of(x: Exchange, phase: u32) -> u32
     ensures { λ r. ⌜ r ≡ placesOf x phase ⌝ }
 {
-    if phase < 2 {
-        return 4;
+    if phase == 0 {
+        return GREETING_BYTES;
+    }
+    if phase == 1 {
+        return HEADER_BYTES;
     }
     if phase == 2 {
         return 1;

@@ -11,8 +11,11 @@ use Rattle.host_flow.proofs.ask.ask_greeting.Tie as tie
 returns : tie.Need-returns
 returns c = record { is = λ reason l known. rw (eq-eqb _ _ (c .if1 .taken)) refl; never-leaves = refl }
 
-add-t6 : tie.Need-add-t6
-add-t6 c = search needs
+sub-if2 : tie.Need-sub-if2
+sub-if2 c = search needs
+
+add-t7 : tie.Need-add-t7
+add-t7 c = search needs
 
 returns-2 : tie.Need-returns-2
 returns-2 c = record { is = λ reason l known. rw (ne-eqb _ _ (c .before .if1 .left), lt-ltb (c .before .before .args .place + 1) 4 (omega (arith, c .if2 .taken))) refl; never-leaves = refl }
@@ -21,4 +24,4 @@ returns-3 : tie.Need-returns-3
 returns-3 c = record { is = λ reason l known. rw (ne-eqb _ _ (c .before .if1 .left), le-ltb (c .before .before .args .place + 1) 4 (omega (arith, c .if2 .left))) refl; never-leaves = refl }
 
 pub ask-greeting-spec : {M : Type 1} → statement M
-ask-greeting-spec = tie.close (tie.spec returns add-t6 returns-2 returns-3)
+ask-greeting-spec = tie.close (tie.spec returns sub-if2 add-t7 returns-2 returns-3)

@@ -11,8 +11,11 @@ use Rattle.host_flow.proofs.ask.ask_header.Tie as tie
 header-byte-requires : tie.Need-header-byte-requires
 header-byte-requires c κs = search needs
 
-add-t6 : tie.Need-add-t6
-add-t6 c = search needs
+sub-if1 : tie.Need-sub-if1
+sub-if1 c = search needs
+
+add-t7 : tie.Need-add-t7
+add-t7 c = search needs
 
 returns : tie.Need-returns
 returns c = record { is = λ reason l known. rw (known, c .before .header-byte .ensures, lt-ltb (c .before .before .args .place + 1) 4 (omega (arith, c .if1 .taken))) refl }
@@ -21,4 +24,4 @@ returns-2 : tie.Need-returns-2
 returns-2 c = record { is = λ reason l known. rw (known, c .before .header-byte .ensures, le-ltb (c .before .before .args .place + 1) 4 (omega (arith, c .if1 .left))) refl }
 
 pub ask-header-spec : {M : Type 1} → statement M
-ask-header-spec = tie.close (tie.spec header-byte-requires add-t6 returns returns-2)
+ask-header-spec = tie.close (tie.spec header-byte-requires sub-if1 add-t7 returns returns-2)
