@@ -6,12 +6,12 @@ use mathlib.Core.Path.{_≡_, refl, sym, ap, _∙_}
 use mathlib.Core.List.{List, _++_}
 use lib.ListN.{length, take, drop, length-drop, length-take}
 use lib.Seq.{drop-append-le, take-append-le}
-use Rattle.machine.specs.Machine.{Machine}
+use Rattle.machine.specs.Machine.{runs, Machine}
 use Rattle.machine.specs.Outcome.{Outcome}
 use Rattle.machine.specs.Uncut.{uncut}
 use Rattle.machine.specs.History.{Event, Way, here, more, Came}
 use Rattle.machine.specs.Lawful.{Any, Lawful}
-use Rattle.machine.specs.Cuts.{Begins, Stopped}
+use Rattle.machine.specs.Cuts.{Begins, Stopped, running}
 use Rattle.machine.proofs.Paths.{all-any}
 use Rattle.machine.proofs.Cuts.{came-agrees}
 
@@ -43,3 +43,7 @@ module _ {S : Type 0} (m : Machine ℕ S) (s : S) where
     -- who can't go on with what it was shown is where the definition ends
     pub came-stops : (shown : List ℕ) (o : Outcome S) → Came m s shown o → Stopped m (o .final) (drop (o .taken) shown) → o ≡ uncut m s shown
     came-stops shown o c stops = came-agrees m law s g shown (all-any shown) o c .stopped stops
+
+    -- who is over before all of r was shown is where the definition ends on r
+    pub came-over : (shown r : List ℕ) (o : Outcome S) → Begins shown r → Came m s shown o → m .need (o .final) ≡ runs → o ≡ uncut m s r
+    came-over shown r o b c e = came-stops r o (rw (b .is) (came-longer shown (b .back) o c)) (running (rw e refl))

@@ -6,7 +6,7 @@ use mathlib.Core.Bool.{Bool, false, _||_}
 use mathlib.Core.List.{List, [], _∷_, map}
 use lib.ListN.{length, take, drop}
 use lib.Seq.{take-length, take-append-seam}
-use Rattle.machine.specs.Machine.{Machine}
+use Rattle.machine.specs.Machine.{runs, Machine}
 use Rattle.machine.specs.Outcome.{Outcome, halt, join}
 use Rattle.machine.specs.Call.{standing, call}
 use Rattle.machine.specs.History.{Event}
@@ -20,7 +20,7 @@ use Rattle.machine.proofs.Sessions.{result-is, quiet}
 use Rattle.joining.specs.Joint.{Both, begun, queue, Turn, turn, turns}
 use Rattle.joining.specs.Joint as joint
 use Rattle.joining.specs.Closing.{ClosesAlone}
-use Rattle.joining.specs.Schedules.{Still, Ends}
+use Rattle.joining.specs.Schedules.{Still, Ends, Joined}
 use Rattle.joining.specs.Rounds.{roundsFrom}
 use Rattle.joining.specs.Diligence.{Brief}
 use Rattle.joining.specs.Diligence as machines
@@ -46,15 +46,20 @@ module _ {M S : Type 0} (σ : Session ℕ M S) {Good : ℕ → Type 0} {fresh : 
   unfolding accepted
   accepts input reply = rw (answer-is input reply) refl
 
+  -- a session that is over: so is its machine
+  over-runs : answered σ (sideOf σ o) [] [] .report .standing ≡ 3 → σ .machine .need (o .final) ≡ runs
+  unfolding accepted
+  over-runs e =
+      let here : standing (σ .machine) (o .final) [] ≡ 3 = rw (answer-is [] [], quiet σ law (λ events s h. h) (o .final)) at e in
+      stands-running (σ .machine .need (o .final)) 0 here
+
   -- the session can't go on exactly if its machine can't
   rests-stopped : (waiting : List ℕ) → Rests σ (sideOf σ o) waiting → Stopped (σ .machine) (o .final) waiting
   unfolding accepted
   rests-stopped waiting (starves h) =
       let same = answer-is waiting [] in
       still (σ .machine) (law .lawful) (o .final) waiting (rw same at (h .took-nothing)) (rw same at (h .waits))
-  rests-stopped waiting (over e) =
-      let here : standing (σ .machine) (o .final) [] ≡ 3 = rw (answer-is [] [], quiet σ law (λ events s h. h) (o .final)) at e in
-      Stopped.running (rw (stands-running (σ .machine .need (o .final)) 0 here) refl)
+  rests-stopped waiting (over e) = Stopped.running (rw (over-runs e) refl)
 
   stopped-rests : (waiting : List ℕ) → Stopped (σ .machine) (o .final) waiting → Rests σ (sideOf σ o) waiting
   unfolding accepted
@@ -145,20 +150,22 @@ module _ {M N S K : Type 0} (σ : Session ℕ M S) (τ : Session ℕ N K) {GoodS
   ends-are : (b : Both S K) → Ends m k s t h r b → sidesOf σ τ b ≡ endSides σ τ s t h r
   ends-are b e = rw (e .left-is, e .right-is) refl
 
-  joined-at : (b : Both S K) → Goings b → (Still m k b → Ends m k s t h r b) → JoinedSides σ τ s t h r (sidesOf σ τ b)
-  joined-at b g ends =
+  joined-at : (b : Both S K) → Goings b → Joined m k s t h r b → JoinedSides σ τ s t h r (sidesOf σ τ b)
+  joined-at b g j =
       record {
         left-begins = g .left-begins;
         right-begins = g .right-begins;
         left-accepts = accepts σ faithS (b .left) (left-sound b g);
         right-accepts = accepts τ faithK (b .right) (right-sound b g);
-        at-end = λ x. ends-are b (ends (stops-of b g x));
+        left-over = λ e. ap (sideOf σ) (j .left-over (over-runs σ faithS (b .left) (left-sound b g) e));
+        right-over = λ e. ap (sideOf τ) (j .right-over (over-runs τ faithK (b .right) (right-sound b g) e));
+        at-end = λ x. ends-are b (j .at-end (stops-of b g x));
       }
 
   pub every-list : EveryList σ τ s t h r
   every-list xs =
       rw (lendings-are (begun s t) first xs)
-      (joined-at (turns m k (begun s t) (map turnOf xs)) (at-list-end xs) (every-schedule m k lawS lawK s gs t gt h r c (map turnOf xs) .at-end))
+      (joined-at (turns m k (begun s t) (map turnOf xs)) (at-list-end xs) (every-schedule m k lawS lawK s gs t gt h r c (map turnOf xs)))
 
   alternating-is : (n : ℕ) → map turnOf (alternating h r n) ≡ machines.alternating h r n
   alternating-is zero = refl

@@ -11,7 +11,7 @@ module _ {S K : Type 0} (m : Machine ℕ S) (k : Machine ℕ K) (s : S) (t : K) 
     pub left-sends : uncut m s r .replies ≡ h
     pub right-sends : uncut k t h .replies ≡ r
 
-  -- and no others do: two machines that echo close on nothing, and on every byte too
+  -- and no others do. This must be said: two machines that echo close on nothing, and on every byte too
   pub record ClosesAlone (h r : List ℕ) : Type 0 where
     pub closes : Closes h r
     pub alone : (h′ r′ : List ℕ) → Closes h′ r′ → (h′ ≡ h) × (r′ ≡ r)

@@ -1,5 +1,6 @@
--- Every list of calls on two joined sessions keeps to the bytes h and r, and no call of it is refused. It can end only where both
--- definitions end, and ends there if it keeps calling both sides with room and all unread bytes shown (rules, 15.9).
+-- Every list of calls on two joined sessions keeps to the bytes h and r, and no call of it is refused. A side that is over is where
+-- its definition ends. The list can end only where both definitions end, and ends there if it keeps calling both sides with room and all
+-- unread bytes shown (rules, 15.9).
 -- Assumes nothing.
 use Prim.Native.Nat.{ℕ, zero, suc, _≤_}
 use mathlib.Core.Path.{_≡_}
@@ -50,6 +51,10 @@ module _ {M N S K : Type 0} (σ : Session ℕ M S) (τ : Session ℕ N K) where
       -- the next call is not refused, whatever it is lent
       pub left-accepts : (input reply : List ℕ) → answered σ (b .left) input reply .report .number ≡ 0
       pub right-accepts : (input reply : List ℕ) → answered τ (b .right) input reply .report .number ≡ 0
+      -- a side that is over, as a call with no input and no room would report, is as its uncut definition leaves it, whatever the other
+      -- has still to say
+      pub left-over : answered σ (b .left) [] [] .report .standing ≡ 3 → b .left ≡ endSides .left
+      pub right-over : answered τ (b .right) [] [] .report .standing ≡ 3 → b .right ≡ endSides .right
       pub at-end : Resting b → b ≡ endSides
 
     abbrev pub EveryList : Type 0

@@ -1,9 +1,10 @@
--- Every schedule of calls on two joined machines keeps to the bytes h and r, and can end only where both definitions end (rules, 15.9).
+-- Every schedule of calls on two joined machines keeps to the bytes h and r, and can end only where both definitions end; a side that is
+-- over is where its definition ends (rules, 15.9).
 -- Assumes nothing.
 use Prim.Native.Nat.{ℕ}
 use mathlib.Core.Path.{_≡_}
 use mathlib.Core.List.{List}
-use Rattle.machine.specs.Machine.{Machine}
+use Rattle.machine.specs.Machine.{runs, Machine}
 use Rattle.machine.specs.Uncut.{uncut}
 use Rattle.machine.specs.Cuts.{Begins, Stopped}
 use Rattle.joining.specs.Joint.{Both, begun, queue, Turn, turns}
@@ -23,6 +24,9 @@ module _ {S K : Type 0} (m : Machine ℕ S) (k : Machine ℕ K) where
     pub record Joined (b : Both S K) : Type 0 where
       pub left-begins : Begins (b .left .replies) h
       pub right-begins : Begins (b .right .replies) r
+      -- a side that is over is what its uncut definition gives, whatever the other has still to say
+      pub left-over : m .need (b .left .final) ≡ runs → b .left ≡ uncut m s r
+      pub right-over : k .need (b .right .final) ≡ runs → b .right ≡ uncut k t h
       pub at-end : Still b → Ends b
 
     abbrev pub EverySchedule : Type 0
