@@ -18,7 +18,7 @@ use Rattle.host_command.specs.Exchange.{followsCommand, awaitedOf}
 abbrev pub brought : (payload : List ℕ) → Memories → Memories
 brought payload m = memories (m .ram) (m .flash) (laid payload (m .work))
 
--- the reason against the command that came so, 0 where there is none
+-- the reason against the command whose payload is there, 0 where there is none
 abbrev pub against : Opcode → (payload : List ℕ) → Memories → ℕ
 against opcode payload m = checked (commandOf opcode (length payload) (laid payload (m .work))) (brought payload m)
 
@@ -41,7 +41,7 @@ pub record Passes (opcode : Opcode) (payload : List ℕ) (m : Memories) : Type 0
   pub in-work : length payload ≤ length (m .work)
   pub passes : against opcode payload m ≡ 0
 
--- and after the execution nothing differs
+-- and a Direct write's comparison holds
 pub record Accepted (opcode : Opcode) (payload : List ℕ) (m : Memories) : Type 0 where
   pub good : Passes opcode payload m
   pub verified : effect opcode payload m .ending ≡ Failed verifyDiffers → ⊥
