@@ -3,16 +3,16 @@
 use Prim.Native.Nat.{ℕ, zero, suc, _≤_}
 use native.Mathlib.Omega.{arith}
 use mathlib.Core.Path.{_≡_, refl, sym, ap, _∙_}
-use mathlib.Core.List.{List, _++_}
+use mathlib.Core.List.{List, [], _++_}
 use lib.ListN.{length, take, drop, length-drop, length-take}
 use lib.Seq.{drop-append-le, take-append-le}
 use Rattle.machine.specs.Machine.{runs, Machine}
-use Rattle.machine.specs.Outcome.{Outcome}
+use Rattle.machine.specs.Outcome.{Outcome, halt}
 use Rattle.machine.specs.Uncut.{uncut}
 use Rattle.machine.specs.History.{Event, Way, here, more, Came}
 use Rattle.machine.specs.Lawful.{Any, Lawful}
 use Rattle.machine.specs.Cuts.{Begins, Stopped, running}
-use Rattle.machine.proofs.Paths.{all-any}
+use Rattle.machine.proofs.Paths.{all-any, at-start}
 use Rattle.machine.proofs.Cuts.{came-agrees}
 
 module _ {S : Type 0} (m : Machine ℕ S) (s : S) where
@@ -32,12 +32,14 @@ module _ {S : Type 0} (m : Machine ℕ S) (s : S) where
   pub came-longer : (stream back : List ℕ) (o : Outcome S) → Came m s stream o → Came m s (stream ++ back) o
   came-longer stream back o c = record { events = c .events; way = way-longer stream back (c .way) }
 
+  pub came-whole : (shown r : List ℕ) (o : Outcome S) → Begins shown r → Came m s shown o → Came m s r o
+  came-whole shown r o b c = rw (b .is) (came-longer shown (b .back) o c)
+
   module _ {Sound : S → Type 0} (law : Lawful m Any Sound) (g : Sound s) where
     -- who was shown a beginning of r has sent a beginning of what r brings
     pub came-begins : (shown r h : List ℕ) (o : Outcome S) → Begins shown r → uncut m s r .replies ≡ h → Came m s shown o → Begins (o .replies) h
     came-begins shown r h o b e c =
-        let longer : Came m s r o = rw (b .is) (came-longer shown (b .back) o c) in
-        let begins = came-agrees m law s g r (all-any r) o longer .replies-begin in
+        let begins = came-agrees m law s g r (all-any r) o (came-whole shown r o b c) .replies-begin in
         record { back = begins .back; is = sym e ∙ begins .is }
 
     -- who can't go on with what it was shown is where the definition ends
@@ -46,4 +48,8 @@ module _ {S : Type 0} (m : Machine ℕ S) (s : S) where
 
     -- who is over before all of r was shown is where the definition ends on r
     pub came-over : (shown r : List ℕ) (o : Outcome S) → Begins shown r → Came m s shown o → m .need (o .final) ≡ runs → o ≡ uncut m s r
-    came-over shown r o b c e = came-stops r o (rw (b .is) (came-longer shown (b .back) o c)) (running (rw e refl))
+    came-over shown r o b c e = came-stops r o (came-whole shown r o b c) (running (rw e refl))
+
+    -- who can't act with nothing shown gives nothing
+    pub stopped-halts : Stopped m s [] → uncut m s [] ≡ halt s
+    stopped-halts still = sym (came-stops [] (halt s) (at-start m law s []) still)

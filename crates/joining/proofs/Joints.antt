@@ -15,7 +15,7 @@ use Rattle.machine.proofs.Paths.{call-came, at-start}
 use Rattle.joining.specs.Joint.{Both, begun, queue, called, Turn, onLeft, onRight, turn, turns}
 use Rattle.joining.specs.Closing.{Closes, ClosesAlone}
 use Rattle.joining.specs.Schedules.{Still, Ends, EverySchedule}
-use Rattle.joining.proofs.Beginnings.{came-longer, came-begins, came-stops, came-over}
+use Rattle.joining.proofs.Beginnings.{came-longer, came-whole, came-begins, came-stops, came-over}
 
 module _ {S K : Type 0} (m : Machine ℕ S) (k : Machine ℕ K) {SoundS : S → Type 0} {SoundK : K → Type 0}
     (lawS : Lawful m Any SoundS) (lawK : Lawful k Any SoundK) (s : S) (gs : SoundS s) (t : K) (gt : SoundK t) (h r : List ℕ) where
@@ -74,6 +74,8 @@ module _ {S K : Type 0} (m : Machine ℕ S) (k : Machine ℕ K) {SoundS : S → 
       let b = turns m k (begun s t) xs in
       let g = turns-go (c .closes) (begun s t) xs first-goes in
       record {
+        left-came = came-whole m s (b .right .replies) r (b .left) (g .right-begins) (g .left-came);
+        right-came = came-whole k t (b .left .replies) h (b .right) (g .left-begins) (g .right-came);
         left-begins = g .left-begins;
         right-begins = g .right-begins;
         left-over = came-over m s lawS gs (b .right .replies) r (b .left) (g .right-begins) (g .left-came);

@@ -2,6 +2,7 @@ pub mod Goings
 pub mod Talks
 pub mod Echoes
 pub mod Beginnings
+pub mod Tallies
 pub mod Joints
 pub mod Work
 pub mod Rounds

@@ -153,8 +153,12 @@ module _ {M N S K : Type 0} (σ : Session ℕ M S) (τ : Session ℕ N K) {GoodS
   joined-at : (b : Both S K) → Goings b → Joined m k s t h r b → JoinedSides σ τ s t h r (sidesOf σ τ b)
   joined-at b g j =
       record {
-        left-begins = g .left-begins;
-        right-begins = g .right-begins;
+        reached = b;
+        reached-is = refl;
+        left-came = j .left-came;
+        right-came = j .right-came;
+        left-begins = j .left-begins;
+        right-begins = j .right-begins;
         left-accepts = accepts σ faithS (b .left) (left-sound b g);
         right-accepts = accepts τ faithK (b .right) (right-sound b g);
         left-over = λ e. ap (sideOf σ) (j .left-over (over-runs σ faithS (b .left) (left-sound b g) e));

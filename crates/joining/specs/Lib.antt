@@ -1,4 +1,5 @@
 pub mod Goes
+pub mod Times
 pub mod Talk
 pub mod Closing
 pub mod Joint

@@ -8,10 +8,11 @@ use mathlib.Core.Bool.{Bool, false}
 use mathlib.Core.List.{List, [], _∷_}
 use lib.ListN.{length}
 use Rattle.machine.specs.Uncut.{uncut}
+use Rattle.machine.specs.History.{Came}
 use Rattle.machine.specs.Cuts.{Begins}
 use Rattle.machine.specs.Session.{Session}
 use Rattle.machine.specs.SessionClaim.{Starves}
-use Rattle.joining.specs.Joint.{begun}
+use Rattle.joining.specs.Joint.{Both, begun}
 use Rattle.joining.specs.Rounds.{isFull, rounds, enoughRounds}
 use Rattle.joining.specs.Sides.{Side, Sides, waits, answered, Lending, onLeft, onRight, lending, lendings, sidesOf}
 
@@ -46,6 +47,11 @@ module _ {M N S K : Type 0} (σ : Session ℕ M S) (τ : Session ℕ N K) where
     endSides = sidesOf σ τ (record { left = uncut (σ .machine) s r; right = uncut (τ .machine) t h })
 
     pub record JoinedSides (b : Sides M N) : Type 0 where
+      -- where both stand, led there by actions on the other's bytes
+      pub reached : Both S K
+      pub reached-is : b ≡ sidesOf σ τ reached
+      pub left-came : Came (σ .machine) s r (reached .left)
+      pub right-came : Came (τ .machine) t h (reached .right)
       pub left-begins : Begins (b .left .sent) h
       pub right-begins : Begins (b .right .sent) r
       -- the next call is not refused, whatever it is lent

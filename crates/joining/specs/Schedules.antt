@@ -6,6 +6,7 @@ use mathlib.Core.Path.{_≡_}
 use mathlib.Core.List.{List}
 use Rattle.machine.specs.Machine.{runs, Machine}
 use Rattle.machine.specs.Uncut.{uncut}
+use Rattle.machine.specs.History.{Came}
 use Rattle.machine.specs.Cuts.{Begins, Stopped}
 use Rattle.joining.specs.Joint.{Both, begun, queue, Turn, turns}
 
@@ -22,6 +23,9 @@ module _ {S K : Type 0} (m : Machine ℕ S) (k : Machine ℕ K) where
       pub right-is : b .right ≡ uncut k t h
 
     pub record Joined (b : Both S K) : Type 0 where
+      -- actions on the other's bytes lead where each stands
+      pub left-came : Came m s r (b .left)
+      pub right-came : Came k t h (b .right)
       pub left-begins : Begins (b .left .replies) h
       pub right-begins : Begins (b .right .replies) r
       -- a side that is over is what its uncut definition gives, whatever the other has still to say
