@@ -2,6 +2,7 @@ pub mod Pairs
 pub mod HostRuns
 pub mod DeviceRuns
 pub mod Effects
+pub mod Executions
 pub mod Closings
 pub mod Lines
 pub mod Refusals

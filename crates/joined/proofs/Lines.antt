@@ -16,7 +16,8 @@ use Rattle.memory.specs.Store.{laid}
 use Rattle.memory.specs.Memories.{Memories}
 use Rattle.machine.specs.Outcome.{halt, join}
 use Rattle.machine.specs.Uncut.{uncut}
-use Rattle.machine.proofs.Actions.{uncut-run, uncut-act}
+use Rattle.machine.specs.Cuts.{Stopped, waits}
+use Rattle.machine.proofs.Actions.{uncut-act}
 use Rattle.opcodes.specs.declared.Opcode.{Opcode}
 use Rattle.opcodes.specs.declared.Lookup.{Lookup}
 use Rattle.opcodes.specs.Opcode.{opcodeNumber, opcodeOf, hasLength}
@@ -33,6 +34,7 @@ use Rattle.uartboot_flow.specs.Device.{device}
 use Rattle.joining.specs.Goes.{Goes, rests, takes}
 use Rattle.joining.specs.Talk.{Talk, over, round, hears}
 use Rattle.joining.proofs.Goings.{via, goes-on}
+use Rattle.joining.proofs.Tallies.{Tallied}
 use Rattle.host_command.specs.declared.Follows.{Follows}
 use Rattle.host_command.specs.declared.Follows.the-variants.{Answers, Runs, Greets}
 use Rattle.host_command.specs.Exchange.{Lent, lent, followsCommand, followsLookup, exchangeOf, exchange, awaitedOf, awaited}
@@ -47,9 +49,10 @@ use Rattle.joined.specs.Traffic.{greetingBytes, headerBytes, hostAnswer,
 use Rattle.joined.specs.Accepted.{brought, effect, answerBytes, Passes}
 use Rattle.joined.specs.Line.{deviceAt, Line, JoinedLine}
 use Rattle.joined.proofs.HostRuns as hosts
+use Rattle.joined.proofs.DeviceRuns.{counting, now}
 use Rattle.joined.proofs.DeviceRuns as devices
 use Rattle.joined.proofs.Effects.{Ends, answering, running, silently, Ended, ends, differs, ended}
-use Rattle.joined.proofs.Closings.{host-law, device-law, over-is, waits-for, Whole, closed}
+use Rattle.joined.proofs.Closings.{host-law, over-is, Whole, closed}
 
 -- what is known of a command that the host doesn't refuse
 pub record Known (opcode : Opcode) (payload answer : List ℕ) : Type 0 where
@@ -74,13 +77,13 @@ known opcode payload answer e =
 -- the end of the line, from the execution on: what the device then says, what the host takes and sends, what it leaves, and where both end
 pub record Tail (opcode : Opcode) (c : Lent) (f : Follows) (e : Executed) (used h left : List ℕ) (host-end : State) (device-end : device-state.State) : Type 0 where
   pub waiting : List ℕ
-  pub begun : device-state.State
+  pub begun : Tallied device-state.State
   pub said : List ℕ
   pub last : State
-  pub speaks : Goes device (device-flow.ends 0 opcode (e .ending) (e .after)) [] waiting begun
-  pub talk : Talk host device (state (behind f) 0 c) begun waiting used h said last device-end left
+  pub speaks : Goes counting (now 1 (device-flow.ends 0 opcode (e .ending) (e .after))) [] waiting begun
+  pub talk : Talk host counting (state (behind f) 0 c) begun waiting used h said last (now 1 device-end) left
   pub quiet : Sound last → (x : List ℕ) → uncut host last (left ++ x) ≡ halt host-end
-  pub silent : uncut device device-end [] ≡ halt device-end
+  pub silent : Stopped device device-end []
 
 tail : (opcode : Opcode) (c : Lent) {f : Follows} {ending : Ending} {after : Memories} → awaited c ≡ awaitedOf f → awaited c ≤ length (c .answer) → Ends f ending after →
     let bytes = take (awaitedOf f) (after .work) in
@@ -93,7 +96,7 @@ tail opcode c awaits fits (answering {size = n} {after = after} some room small)
     let filled = hosts.filled c n awaits some short (take n (after .work)) is-n fits-n in
     record {
       waiting = bytesOf 2 n;
-      begun = device-state.state (Answer opcode n a.TakeGo) 0 after;
+      begun = now 1 (device-state.state (Answer opcode n a.TakeGo) 0 after);
       said = _;
       last = state Over 0 filled;
       speaks = devices.at-length opcode after n;
@@ -102,29 +105,29 @@ tail opcode c awaits fits (answering {size = n} {after = after} some room small)
           (round (hosts.at-answer c n awaits some short (take n (after .work)) is-n fits-n) (devices.at-last opcode after n some room)
           (hears {front = ack ∷ []} {waiting = greetingBytes} (hosts.at-end filled) over));
       quiet = λ g x. over-is 0 filled (greetingBytes ++ x);
-      silent = waits-for 0 after;
+      silent = waits refl;
     }
 tail opcode c awaits fits (running {address} {after}) =
     record {
       waiting = [];
-      begun = deviceAt (ending.Runs address) after;
+      begun = now 1 (deviceAt (ending.Runs address) after);
       said = [];
       last = state Over 0 c;
       speaks = rests;
       talk = over;
       quiet = λ g x. over-is 0 c x;
-      silent = uncut-run device device-law (deviceAt (ending.Runs address) after) [] refl;
+      silent = Stopped.running refl;
     }
 tail opcode c awaits fits (silently {after}) =
     record {
       waiting = greetingBytes;
-      begun = device-state.state (Header TakeSoh) 0 after;
+      begun = now 1 (device-state.state (Header TakeSoh) 0 after);
       said = [];
       last = state Look 0 c;
-      speaks = devices.greets 0 after;
+      speaks = devices.greets 1 0 after;
       talk = over;
       quiet = λ g x. uncut-act host host-law (state Look 0 c) g (greetingBytes ++ x) 1 refl (omega arith) ∙ ap (join (halt (state Over 0 c))) (over-is 0 c (greetingBytes ++ x));
-      silent = waits-for 0 after;
+      silent = waits refl;
     }
 
 -- flash differs: 15 and the greeting
@@ -133,29 +136,29 @@ pub failing : (opcode : Opcode) (c : Lent) (why : ℕ) (e : Executed) → e .end
 failing opcode c why e is =
     record {
       waiting = nak ∷ greetingBytes;
-      begun = device-state.state (Header TakeSoh) why (e .after);
+      begun = now 1 (device-state.state (Header TakeSoh) why (e .after));
       said = [];
       last = state Over deviceRefused c;
-      speaks = via device (ap (λ (x : Ending). device-flow.ends 0 opcode x (e .after)) is) (devices.refuses why (e .after));
+      speaks = via counting (ap (λ (x : Ending). now 1 (device-flow.ends 0 opcode x (e .after))) is) (devices.refuses 1 why (e .after));
       talk = hears {front = nak ∷ []} {waiting = greetingBytes} (takes refl refl refl rests) over;
       quiet = λ g x. over-is deviceRefused c (greetingBytes ++ x);
-      silent = waits-for why (e .after);
+      silent = waits refl;
     }
 
 -- the host stands where what it knows of the command says
-next-talk : (c : Lent) {f : Follows} {t t′ : device-state.State} {waiting used h r left : List ℕ} {s′ : State} → exchange c .follows ≡ f →
-    Talk host device (state (behind f) 0 c) t waiting used h r s′ t′ left → Talk host device (state (behind (exchange c .follows)) 0 c) t waiting used h r s′ t′ left
+next-talk : (c : Lent) {f : Follows} {t t′ : Tallied device-state.State} {waiting used h r left : List ℕ} {s′ : State} → exchange c .follows ≡ f →
+    Talk host counting (state (behind f) 0 c) t waiting used h r s′ t′ left → Talk host counting (state (behind (exchange c .follows)) 0 c) t waiting used h r s′ t′ left
 next-talk c e talk = rw e talk
 
-pub talk-as : {s s′ : State} {t t′ : device-state.State} {waiting used h h′ r left : List ℕ} → h ≡ h′ →
-    Talk host device s t waiting used h r s′ t′ left → Talk host device s t waiting used h′ r s′ t′ left
+pub talk-as : {s s′ : State} {t t′ : Tallied device-state.State} {waiting used h h′ r left : List ℕ} → h ≡ h′ →
+    Talk host counting s t waiting used h r s′ t′ left → Talk host counting s t waiting used h′ r s′ t′ left
 talk-as e talk = rw (← e) talk
 
 -- the whole line
 module _ (opcode : Opcode) (answer : List ℕ) (m : Memories) {used h left : List ℕ} {host-end : State} {device-end : device-state.State} where
   pub whole : (payload : List ℕ) → Known opcode payload answer → Passes opcode payload m →
       let c = lent (opcodeNumber opcode) payload answer in (f : Follows) → exchange c .follows ≡ f →
-      Tail opcode c f (effect opcode payload m) used h left host-end device-end → Whole c m (deviceBytes payload used) (hostBytes opcode payload h) left host-end device-end
+      Tail opcode c f (effect opcode payload m) used h left host-end device-end → Whole c m (deviceBytes payload used) (hostBytes opcode payload h) left host-end device-end 1
   whole [] k ok f is t =
       let c = lent (opcodeNumber opcode) [] answer in
       record {
@@ -163,7 +166,7 @@ module _ (opcode : Opcode) (answer : List ℕ) (m : Memories) {used h left : Lis
         ended = t .last;
         talk =
             round (hosts.at-header c)
-            (goes-on device (devices.heads-on opcode m 0 (k .small) (ok .has-length) (ok .in-work)) (goes-on device (devices.at-once opcode m 0 refl) (t .speaks)))
+            (goes-on counting (devices.heads-on opcode m 0 (k .small) (ok .has-length) (ok .in-work)) (goes-on counting (devices.at-once opcode m) (t .speaks)))
             (hears {front = ack ∷ []} {waiting = t .waiting} (hosts.at-once c refl) (next-talk c is (t .talk)));
         quiet = t .quiet;
         silent = t .silent;
@@ -173,9 +176,9 @@ module _ (opcode : Opcode) (answer : List ℕ) (m : Memories) {used h left : Lis
       let some : 0 < length (b ∷ bs) = omega arith in
       let talk =
       round (hosts.at-header c)
-      (goes-on device (devices.heads-on opcode m (length (b ∷ bs)) (k .small) (ok .has-length) (ok .in-work)) (devices.at-first opcode m (length (b ∷ bs)) some))
+      (goes-on counting (devices.heads-on opcode m (length (b ∷ bs)) (k .small) (ok .has-length) (ok .in-work)) (devices.at-first opcode m (length (b ∷ bs)) some))
       (round (hosts.at-payload c some) (devices.at-payload opcode m (b ∷ bs) some (ok .in-work) (ok .passes))
-      (round (hosts.at-go c) (goes-on device (devices.at-go opcode (brought (b ∷ bs) m) (length (b ∷ bs))) (t .speaks))
+      (round (hosts.at-go c) (goes-on counting (devices.at-go opcode (brought (b ∷ bs) m) (length (b ∷ bs))) (t .speaks))
       (next-talk c is (t .talk)))) in
       record {
         said = _;

@@ -16,6 +16,7 @@ use Rattle.wire.specs.Unit.{ramBase, ramPlace, flashPlace}
 use Rattle.wire.proofs.Lengths.{work-bounds}
 use Rattle.wire.proofs.Tests.{in-cond}
 use Rattle.memory.specs.Memories.{Memories}
+use Rattle.machine.specs.Cuts.{waits}
 use Rattle.opcodes.specs.declared.Opcode.{Opcode}
 use Rattle.opcodes.specs.declared.Opcode.the-variants.{Write, Read, Copy, Erase, Run, ReadQspi, Version, ChipErase, DirectWrite}
 use Rattle.opcodes.specs.Opcode.{opcodeNumber, hasLength}
@@ -27,7 +28,6 @@ use Rattle.command_execution.specs.Execution.{verifyDiffers}
 use Rattle.joining.specs.Talk.{over, round, hears}
 use Rattle.joining.proofs.Goings.{goes-on}
 use Rattle.uartboot_flow.specs.Flow.{longPayload}
-use Rattle.uartboot_flow.specs.Device.{device}
 use Rattle.host_command.specs.declared.Follows.{Follows}
 use Rattle.host_command.specs.declared.Follows.the-variants.{Greets}
 use Rattle.host_command.specs.Exchange.{Lent, lent}
@@ -35,12 +35,13 @@ use Rattle.host_flow.specs.declared.step.Step.the-variants.{Over}
 use Rattle.host_flow.specs.State.{state}
 use Rattle.host_flow.specs.Flow.{deviceRefused}
 use Rattle.joined.specs.Traffic.{greetingBytes, headerBytes}
-use Rattle.joined.specs.Accepted.{brought, against, effect, Fits}
+use Rattle.joined.specs.Accepted.{against, effect, Fits}
 use Rattle.joined.specs.Refused.{HeaderRefused, payloadReasons, isAmong, PayloadRefused, Differs, NotVerified}
 use Rattle.joined.proofs.HostRuns as hosts
+use Rattle.joined.proofs.DeviceRuns.{counting}
 use Rattle.joined.proofs.DeviceRuns as devices
 use Rattle.joined.proofs.Effects.{Ends, answering, running, silently, Ended, ends, differs, ended}
-use Rattle.joined.proofs.Closings.{over-is, waits-for, closed}
+use Rattle.joined.proofs.Closings.{over-is, closed}
 use Rattle.joined.proofs.Lines.{Known, known, failing, talk-as, whole}
 
 pub header-refused : HeaderRefused
@@ -51,10 +52,10 @@ header-refused opcode payload answer m e fits long =
       said = _;
       ended = state Over deviceRefused c;
       talk =
-          round (hosts.at-header c) (goes-on device (devices.heads-long opcode m (length payload) (k .small) (k .has-length) long) (devices.refuses longPayload m))
+          round (hosts.at-header c) (goes-on counting (devices.heads-long opcode m (length payload) (k .small) (k .has-length) long) (devices.refuses 0 longPayload m))
           (hears {front = nak ∷ []} {waiting = greetingBytes} (hosts.header-refused c) over);
       quiet = λ g x. over-is deviceRefused c (greetingBytes ++ x);
-      silent = waits-for longPayload m;
+      silent = waits refl;
     })
 
 -- a command without payload passes its checks
@@ -102,7 +103,7 @@ payload-refused opcode (b ∷ bs) answer m e fits short fails =
     let some : 0 < length payload = omega arith in
     let talk =
     round (hosts.at-header c)
-    (goes-on device (devices.heads-on opcode m (length payload) (k .small) (k .has-length) short) (devices.at-first opcode m (length payload) some))
+    (goes-on counting (devices.heads-on opcode m (length payload) (k .small) (k .has-length) short) (devices.at-first opcode m (length payload) some))
     (round (hosts.at-payload c some) (devices.at-payload-refused opcode m payload some short fails)
     (hears {front = nak ∷ []} {waiting = greetingBytes} (hosts.payload-refused c) over)) in
     record {
@@ -111,7 +112,7 @@ payload-refused opcode (b ∷ bs) answer m e fits short fails =
         ended = state Over deviceRefused c;
         talk = talk-as (ap (λ (l : List ℕ). headerBytes opcode payload ++ l) (append-nil payload)) talk;
         quiet = λ g x. over-is deviceRefused c (greetingBytes ++ x);
-        silent = waits-for (against opcode payload m) (brought payload m);
+        silent = waits refl;
       });
       reason-is = reasons _ _ _ _ fails;
     }

@@ -1,5 +1,6 @@
 pub mod Traffic
 pub mod Accepted
+pub mod Executions
 pub mod Closed
 pub mod Line
 pub mod Refused

@@ -30,14 +30,14 @@ deviceAt (ending.Runs address) m = device-state.state (Running address) 0 m
 deviceAt (ending.Failed why) m = device-state.state (Header TakeSoh) why m
 
 pub record Line (opcode : Opcode) (payload answer : List ℕ) (m : Memories) : Type 0 where
-  -- the next greeting is left untaken
+  -- the next greeting is left untaken, and one command is executed
   pub closed :
       let follows = followsCommand opcode payload in
       let bytes = answerBytes opcode payload m in
       let e = effect opcode payload m in
       Closed (lent (opcodeNumber opcode) payload answer) m
       (hostBytes opcode payload (hostAnswer follows bytes)) (deviceBytes payload (deviceAnswer follows bytes)) (nextGreeting follows)
-      (state Over 0 (lent (opcodeNumber opcode) payload (laid bytes answer))) (deviceAt (e .ending) (e .after))
+      (state Over 0 (lent (opcodeNumber opcode) payload (laid bytes answer))) (deviceAt (e .ending) (e .after)) 1
   pub host-sends : length (hostBytes opcode payload (hostAnswer (followsCommand opcode payload) (answerBytes opcode payload m)))
       ≡ payloadCount payload + answerCount (followsCommand opcode payload)
 

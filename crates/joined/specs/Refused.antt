@@ -30,18 +30,19 @@ use Rattle.joined.specs.Traffic.{greetingBytes, headerBytes, hostBytes, 
 use Rattle.joined.specs.Accepted.{brought, against, effect, Fits, Passes}
 use Rattle.joined.specs.Closed.{Closed}
 
--- over the line the host sends h and takes `used`, which ends with 15; the greeting is left; the device has noted why
-abbrev pub Refused : Opcode → (payload answer : List ℕ) → Memories → (h used : List ℕ) (why : ℕ) → (after : Memories) → Type 0
-Refused opcode payload answer m h used why after =
+-- over the line the host sends h and takes `used`, which ends with 15; the greeting is left; the device has noted why and executed
+-- `count` commands
+abbrev pub Refused : Opcode → (payload answer : List ℕ) → Memories → (h used : List ℕ) (why count : ℕ) → (after : Memories) → Type 0
+Refused opcode payload answer m h used why count after =
     let c = lent (opcodeNumber opcode) payload answer in
-    Closed c m h used greetingBytes (state Over deviceRefused c) (device-state.state (Header TakeSoh) why after)
+    Closed c m h used greetingBytes (state Over deviceRefused c) (device-state.state (Header TakeSoh) why after) count
 
--- 15 for the header, since the payload is longer than the work buffer: nothing has changed
+-- 15 for the header, since the payload is longer than the work buffer: nothing is executed, and nothing has changed
 abbrev pub HeaderRefused : Type 0
 HeaderRefused =
     (opcode : Opcode) (payload answer : List ℕ) (m : Memories) → refusalOf (lent (opcodeNumber opcode) payload answer) ≡ 0 → Fits m →
     length (m .work) < length payload →
-    Refused opcode payload answer m (headerBytes opcode payload) (greetingBytes ++ (nak ∷ [])) longPayload m
+    Refused opcode payload answer m (headerBytes opcode payload) (greetingBytes ++ (nak ∷ [])) longPayload 0 m
 
 -- the reasons against a payload
 abbrev pub payloadReasons : List ℕ
@@ -51,10 +52,10 @@ abbrev pub isAmong : (these : List ℕ) (n : ℕ) → Bool
 isAmong [] n = false
 isAmong (this ∷ these) n = eqb n this || isAmong these n
 
--- 15 for the payload: RAM and flash have not changed, the payload is in the work buffer
+-- 15 for the payload: nothing is executed, RAM and flash have not changed, the payload is in the work buffer
 pub record NotAllowed (opcode : Opcode) (payload answer : List ℕ) (m : Memories) : Type 0 where
   pub closed : Refused opcode payload answer m (headerBytes opcode payload ++ payload) (greetingBytes ++ (ack ∷ nak ∷ []))
-      (against opcode payload m) (brought payload m)
+      (against opcode payload m) 0 (brought payload m)
   pub reason-is : isAmong payloadReasons (against opcode payload m) ≡ true
 
 abbrev pub PayloadRefused : Type 0
@@ -62,11 +63,11 @@ PayloadRefused =
     (opcode : Opcode) (payload answer : List ℕ) (m : Memories) → refusalOf (lent (opcodeNumber opcode) payload answer) ≡ 0 → Fits m →
     length payload ≤ length (m .work) → (against opcode payload m ≡ 0 → ⊥) → NotAllowed opcode payload answer m
 
--- 15 in place of the next greeting, since after a Direct write flash differs from its data: the store stays, RAM has not changed, the
--- payload is in the work buffer
+-- 15 in place of the next greeting, since after a Direct write flash differs from its data: it is executed once and its store stays, RAM
+-- has not changed, the payload is in the work buffer
 pub record Differs (opcode : Opcode) (payload answer : List ℕ) (m : Memories) : Type 0 where
   pub direct-write : opcode ≡ DirectWrite
-  pub closed : Refused opcode payload answer m (hostBytes opcode payload []) (deviceBytes payload (nak ∷ [])) verifyDiffers (effect opcode payload m .after)
+  pub closed : Refused opcode payload answer m (hostBytes opcode payload []) (deviceBytes payload (nak ∷ [])) verifyDiffers 1 (effect opcode payload m .after)
   pub store-stays : effect opcode payload m .after .flash
       ≡ changedFrom (offsetAt 1 payload .0) (burnt (drop (dataPlace DirectWrite) payload)) (m .flash)
   pub same-ram : effect opcode payload m .after .ram ≡ m .ram
