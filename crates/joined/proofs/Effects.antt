@@ -6,10 +6,9 @@ use mathlib.Core.Path.{_≡_, refl, sym, ap, _∙_}
 use mathlib.Core.Bool.{Bool, true, false, cond, not, _||_}
 use mathlib.Core.List.{List}
 use lib.Dec.{eqb}
-use lib.ListN.{length, drop, getD, length-drop}
+use lib.ListN.{length, take, drop, getD, length-drop}
 use lib.Seq.{drop-append-le, take-append-le, take-at}
 use borrow.Author.Tests.{eqb-true, ltb-true}
-use Rattle.wire.specs.declared.unit.RamAddress.{RamAddress}
 use Rattle.wire.proofs.Lengths.{work-bounds}
 use Rattle.numbers.specs.Number.{numberAt}
 use Rattle.memory.specs.Store.{laid, partOf, changedFrom}
@@ -21,6 +20,7 @@ use Rattle.opcodes.specs.declared.Opcode.{Opcode}
 use Rattle.opcodes.specs.declared.Opcode.the-variants.{Write, Read, Copy, Erase, Run, ReadQspi, Version, ChipErase, DirectWrite}
 use Rattle.opcodes.specs.Opcode.{dataPlace}
 use Rattle.command.specs.Payload.{commandOf, addressAt, offsetAt}
+use Rattle.command.specs.Version.{version}
 use Rattle.command.specs.Check.{checksOf}
 use Rattle.command_execution.specs.declared.Ending.{Ending}
 use Rattle.command_execution.specs.declared.Ending.the-variants as ending
@@ -29,14 +29,14 @@ use Rattle.command_execution.proofs.Checks.{Passed, allowed}
 use Rattle.command_execution.proofs.Executions.{Kept, performs, executed-keeps}
 use Rattle.host_command.specs.declared.Follows.{Follows}
 use Rattle.host_command.specs.declared.Follows.the-variants.{Answers, Runs, Greets}
-use Rattle.host_command.specs.Exchange.{followsCommand}
-use Rattle.joined.specs.Accepted.{brought, effect, Fits, Passes}
+use Rattle.host_command.specs.Exchange.{followsCommand, awaitedOf}
+use Rattle.joined.specs.Accepted.{brought, effect, answerBytes, Fits, Passes}
 
 -- an ending that fits what the host awaits
-pub data Ends : Follows → Ending → Memories → Type 0 where
-  answering : {size : ℕ} {after : Memories} → 0 < size → size ≤ length (after .work) → length (after .work) < 65536 → Ends (Answers size) (ending.Answers size) after
-  running : {address : RamAddress} {after : Memories} → Ends Runs (ending.Runs address) after
-  silently : {after : Memories} → Ends Greets ending.Silent after
+pub data Ends (payload : List ℕ) : Follows → Ending → Memories → Type 0 where
+  answering : {size : ℕ} {after : Memories} → 0 < size → size ≤ length (after .work) → length (after .work) < 65536 → Ends payload (Answers size) (ending.Answers size) after
+  running : {after : Memories} → Ends payload Runs (ending.Runs (addressAt 0 payload)) after
+  silently : {after : Memories} → Ends payload Greets ending.Silent after
 
 -- flash differs after the store
 pub record Differing (opcode : Opcode) (payload : List ℕ) (m : Memories) (e : Executed) : Type 0 where
@@ -47,7 +47,7 @@ pub record Differing (opcode : Opcode) (payload : List ℕ) (m : Memories) (e : 
   pub same-work : e .after .work ≡ laid payload (m .work)
 
 pub data Ended (opcode : Opcode) (payload : List ℕ) (m : Memories) (e : Executed) : Type 0 where
-  ends : Ends (followsCommand opcode payload) (e .ending) (e .after) → Ended opcode payload m e
+  ends : Ends payload (followsCommand opcode payload) (e .ending) (e .after) → Ended opcode payload m e
   differs : Differing opcode payload m e → Ended opcode payload m e
 
 -- a number in the payload is in the work buffer, and so are its data
@@ -105,7 +105,9 @@ ended Read payload m ok =
     answers-end Read payload m ok (numberAt 2 payload 4) (sym (end-is Read payload m ok) ∙ ap ending.Answers (count ∙ k)) refl
 ended Copy payload m ok = silent-end Copy payload m ok (sym (end-is Copy payload m ok)) refl
 ended Erase payload m ok = silent-end Erase payload m ok (sym (end-is Erase payload m ok)) refl
-ended Run payload m ok = ends (rw (← end-is Run payload m ok) running)
+ended Run payload m ok =
+    let k : numberAt 4 (laid payload (m .work)) 0 ≡ numberAt 4 payload 0 = number-brought 4 0 payload (m .work) (omega (arith, eqb-true (length payload) 4 (ok .has-length))) in
+    ends (rw (sym (end-is Run payload m ok) ∙ ap (λ (n : ℕ). ending.Runs (record { 0 = n })) k) running)
 ended ReadQspi payload m ok =
     let k : numberAt 2 (laid payload (m .work)) 4 ≡ numberAt 2 payload 4 = number-brought 2 4 payload (m .work) (omega (arith, eqb-true (length payload) 6 (ok .has-length))) in
     let place = offsetAt 0 (laid payload (m .work)) .0 in
@@ -142,3 +144,33 @@ ended DirectWrite payload m ok = go holds refl
           same-ram = ap (λ (e : Executed). e .after .ram) (sym (done DirectWrite payload m ok));
           same-work = ap (λ (e : Executed). e .after .work) (sym (done DirectWrite payload m ok));
         })
+
+-- the answer is at the front of the work buffer
+pub answer-is : (opcode : Opcode) (payload : List ℕ) (m : Memories) → Passes opcode payload m →
+    take (awaitedOf (followsCommand opcode payload)) (effect opcode payload m .after .work) ≡ answerBytes opcode payload m
+answer-is Write payload m ok = refl
+answer-is Read payload m ok =
+    let long : length payload ≡ 6 = eqb-true (length payload) 6 (ok .has-length) in
+    let k : numberAt 2 (laid payload (m .work)) 4 ≡ numberAt 2 payload 4 = number-brought 2 4 payload (m .work) (omega arith) in
+    let from : numberAt 4 (laid payload (m .work)) 0 ≡ numberAt 4 payload 0 = number-brought 4 0 payload (m .work) (omega arith) in
+    let bytes = partOf (placeOf (addressAt 0 (laid payload (m .work)))) (numberAt 2 (laid payload (m .work)) 4) (m .ram) in
+    let count : length bytes ≡ numberAt 2 payload 4 =
+    part-length (placeOf (addressAt 0 (laid payload (m .work)))) (numberAt 2 (laid payload (m .work)) 4) (m .ram) (passed Read payload m ok .in-ram) ∙ k in
+    ap (λ (e : Executed). take (numberAt 2 payload 4) (e .after .work)) (sym (done Read payload m ok))
+    ∙ take-at bytes (drop (length bytes) (laid payload (m .work))) (numberAt 2 payload 4) count ∙ rw (k, from) refl
+answer-is Copy payload m ok = refl
+answer-is Erase payload m ok = refl
+answer-is Run payload m ok = refl
+answer-is ReadQspi payload m ok =
+    let long : length payload ≡ 6 = eqb-true (length payload) 6 (ok .has-length) in
+    let k : numberAt 2 (laid payload (m .work)) 4 ≡ numberAt 2 payload 4 = number-brought 2 4 payload (m .work) (omega arith) in
+    let from : numberAt 4 (laid payload (m .work)) 0 ≡ numberAt 4 payload 0 = number-brought 4 0 payload (m .work) (omega arith) in
+    let bytes = partOf (offsetAt 0 (laid payload (m .work)) .0) (numberAt 2 (laid payload (m .work)) 4) (m .flash) in
+    let count : length bytes ≡ numberAt 2 payload 4 =
+    part-length (offsetAt 0 (laid payload (m .work)) .0) (numberAt 2 (laid payload (m .work)) 4) (m .flash) (passed ReadQspi payload m ok .in-flash) ∙ k in
+    ap (λ (e : Executed). take (numberAt 2 payload 4) (e .after .work)) (sym (done ReadQspi payload m ok))
+    ∙ take-at bytes (drop (length bytes) (laid payload (m .work))) (numberAt 2 payload 4) count ∙ rw (k, from) refl
+answer-is Version payload m ok =
+    ap (λ (e : Executed). take 7 (e .after .work)) (sym (done Version payload m ok)) ∙ take-at version (drop 7 (laid payload (m .work))) 7 refl
+answer-is ChipErase payload m ok = refl
+answer-is DirectWrite payload m ok = refl

@@ -2,7 +2,7 @@
 -- Assumes nothing.
 use Prim.Native.Nat.{ℕ, _+_, _≤_, _<_}
 use native.Mathlib.Omega.{arith}
-use mathlib.Core.Path.{_≡_, refl, sym, ap, _∙_}
+use mathlib.Core.Path.{_≡_, refl, sym, ap, subst, _∙_}
 use mathlib.Core.Bool.{true}
 use mathlib.Core.List.{List, [], _∷_, _++_, append-assoc}
 use lib.Dec.{leb}
@@ -47,11 +47,12 @@ use Rattle.host_flow.specs.Host.{host}
 use Rattle.host_flow.specs.Sound.{Sound}
 use Rattle.joined.specs.Traffic.{greetingBytes, headerBytes, hostAnswer, deviceAnswer, nextGreeting, hostBytes, deviceBytes, payloadCount, answerCount}
 use Rattle.joined.specs.Accepted.{brought, effect, answerBytes, Passes}
+use Rattle.joined.specs.Closed.{Closed}
 use Rattle.joined.specs.Line.{deviceAt, Line, JoinedLine}
 use Rattle.joined.proofs.HostRuns as hosts
 use Rattle.joined.proofs.DeviceRuns.{counting, now}
 use Rattle.joined.proofs.DeviceRuns as devices
-use Rattle.joined.proofs.Effects.{Ends, answering, running, silently, Ended, ends, differs, ended}
+use Rattle.joined.proofs.Effects.{Ends, answering, running, silently, Ended, ends, differs, ended, answer-is}
 use Rattle.joined.proofs.Closings.{host-law, over-is, Whole, closed}
 
 -- what is known of a command that the host doesn't refuse
@@ -85,10 +86,10 @@ pub record Tail (opcode : Opcode) (c : Lent) (f : Follows) (e : Executed) (used 
   pub quiet : Sound last → (x : List ℕ) → uncut host last (left ++ x) ≡ halt host-end
   pub silent : Stopped device device-end []
 
-tail : (opcode : Opcode) (c : Lent) {f : Follows} {ending : Ending} {after : Memories} → awaited c ≡ awaitedOf f → awaited c ≤ length (c .answer) → Ends f ending after →
+tail : (opcode : Opcode) (c : Lent) {f : Follows} {ending : Ending} {after : Memories} → awaited c ≡ awaitedOf f → awaited c ≤ length (c .answer) → Ends (c .payload) f ending after →
     let bytes = take (awaitedOf f) (after .work) in
     Tail opcode c f (record { ending = ending; after = after }) (deviceAnswer f bytes) (hostAnswer f bytes) (nextGreeting f)
-    (state Over 0 (lent (c .opcode) (c .payload) (laid bytes (c .answer)))) (deviceAt ending after)
+    (state Over 0 (lent (c .opcode) (c .payload) (laid bytes (c .answer)))) (deviceAt f (c .payload) after)
 tail opcode c awaits fits (answering {size = n} {after = after} some room small) =
     let is-n : length (take n (after .work)) ≡ n = length-take-le n (after .work) room in
     let fits-n : n ≤ length (c .answer) = omega arith in
@@ -107,10 +108,10 @@ tail opcode c awaits fits (answering {size = n} {after = after} some room small)
       quiet = λ g x. over-is 0 filled (greetingBytes ++ x);
       silent = waits refl;
     }
-tail opcode c awaits fits (running {address} {after}) =
+tail opcode c awaits fits (running {after}) =
     record {
       waiting = [];
-      begun = now 1 (deviceAt (ending.Runs address) after);
+      begun = now 1 (deviceAt Runs (c .payload) after);
       said = [];
       last = state Over 0 c;
       speaks = rests;
@@ -208,11 +209,15 @@ joined-line opcode payload answer m e ok = go (ended opcode payload m (ok .good)
     k : Known opcode payload answer
     k = known opcode payload answer e
 
+    f : Follows
+    f = followsCommand opcode payload
+
     go : Ended opcode payload m (effect opcode payload m) → Line opcode payload answer m
     go (differs d) = absurd (ok .verified (d .fails))
     go (ends x) =
         record {
-          closed = closed c m e (ok .good .fitting)
-              (whole opcode answer m payload k (ok .good) (followsCommand opcode payload) (k .follows-is) (tail opcode c (ap awaitedOf (k .follows-is)) (k .has-room) x));
-          host-sends = counted opcode payload (followsCommand opcode payload) (answerBytes opcode payload m);
+          closed = subst (λ (l : List ℕ). Closed c m (hostBytes opcode payload (hostAnswer f l)) (deviceBytes payload (deviceAnswer f l)) (nextGreeting f)
+              (state Over 0 (lent (opcodeNumber opcode) payload (laid l answer))) (deviceAt f payload (effect opcode payload m .after)) 1) (answer-is opcode payload m (ok .good))
+              (closed c m e (ok .good .fitting) (whole opcode answer m payload k (ok .good) f (k .follows-is) (tail opcode c (ap awaitedOf (k .follows-is)) (k .has-room) x)));
+          host-sends = counted opcode payload f (answerBytes opcode payload m);
         }

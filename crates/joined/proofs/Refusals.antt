@@ -117,7 +117,7 @@ payload-refused opcode (b ∷ bs) answer m e fits short fails =
       reason-is = reasons _ _ _ _ fails;
     }
 
-pub never-fails : {f : Follows} {e : Ending} {after : Memories} (why : ℕ) → Ends f e after → e ≡ ending.Failed why → ⊥
+pub never-fails : {payload : List ℕ} {f : Follows} {e : Ending} {after : Memories} (why : ℕ) → Ends payload f e after → e ≡ ending.Failed why → ⊥
 never-fails why (answering some room small) e = let z : _≡_ {A = ℕ} 0 1 = cc in omega arith
 never-fails why running e = let z : _≡_ {A = ℕ} 0 1 = cc in omega arith
 never-fails why silently e = let z : _≡_ {A = ℕ} 0 1 = cc in omega arith

@@ -3,16 +3,18 @@
 use Prim.Native.Nat.{ℕ, _≤_}
 use mathlib.Core.Path.{_≡_}
 use mathlib.Core.Bool.{true}
-use mathlib.Core.List.{List}
-use lib.ListN.{length, take}
-use Rattle.memory.specs.Store.{laid}
+use mathlib.Core.List.{List, []}
+use lib.ListN.{length}
+use Rattle.numbers.specs.Number.{numberAt}
+use Rattle.memory.specs.Store.{laid, partOf}
 use Rattle.memory.specs.Memories.{Memories, memories, Fitting}
 use Rattle.opcodes.specs.declared.Opcode.{Opcode}
+use Rattle.opcodes.specs.declared.Opcode.the-variants.{Write, Read, Copy, Erase, Run, ReadQspi, Version, ChipErase, DirectWrite}
 use Rattle.opcodes.specs.Opcode.{hasLength}
-use Rattle.command.specs.Payload.{commandOf}
+use Rattle.command.specs.Payload.{addressAt, offsetAt, commandOf}
+use Rattle.command.specs.Version.{version}
 use Rattle.command_execution.specs.declared.Ending.the-variants.{Failed}
-use Rattle.command_execution.specs.Execution.{Executed, verifyDiffers, checked, executed}
-use Rattle.host_command.specs.Exchange.{followsCommand, awaitedOf}
+use Rattle.command_execution.specs.Execution.{Executed, verifyDiffers, placeOf, checked, executed}
 
 -- the payload in the work buffer
 abbrev pub brought : (payload : List ℕ) → Memories → Memories
@@ -26,9 +28,17 @@ against opcode payload m = checked (commandOf opcode (length payload) (laid payl
 abbrev pub effect : Opcode → (payload : List ℕ) → Memories → Executed
 effect opcode payload m = executed opcode (length payload) (brought payload m)
 
--- its answer, at the front of the work buffer
+-- its answer: bytes of RAM, bytes of flash, the version, or none
 abbrev pub answerBytes : Opcode → (payload : List ℕ) → Memories → List ℕ
-answerBytes opcode payload m = take (awaitedOf (followsCommand opcode payload)) (effect opcode payload m .after .work)
+answerBytes Write payload m = []
+answerBytes Read payload m = partOf (placeOf (addressAt 0 payload)) (numberAt 2 payload 4) (m .ram)
+answerBytes Copy payload m = []
+answerBytes Erase payload m = []
+answerBytes Run payload m = []
+answerBytes ReadQspi payload m = partOf (offsetAt 0 payload .0) (numberAt 2 payload 4) (m .flash)
+answerBytes Version payload m = version
+answerBytes ChipErase payload m = []
+answerBytes DirectWrite payload m = []
 
 -- lengths that no call refuses
 abbrev pub Fits : Memories → Type 0

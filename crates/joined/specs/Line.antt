@@ -9,11 +9,12 @@ use Rattle.memory.specs.Store.{laid}
 use Rattle.memory.specs.Memories.{Memories}
 use Rattle.opcodes.specs.declared.Opcode.{Opcode}
 use Rattle.opcodes.specs.Opcode.{opcodeNumber}
-use Rattle.command_execution.specs.declared.Ending.{Ending}
-use Rattle.command_execution.specs.declared.Ending.the-variants as ending
+use Rattle.command.specs.Payload.{addressAt}
 use Rattle.uartboot_flow.specs.declared.step.Step.the-variants.{Header, Running}
 use Rattle.uartboot_flow.specs.declared.step.HeaderStep.the-variants.{TakeSoh}
 use Rattle.uartboot_flow.specs.State as device-state
+use Rattle.host_command.specs.declared.Follows.{Follows}
+use Rattle.host_command.specs.declared.Follows.the-variants.{Answers, Runs, Greets}
 use Rattle.host_command.specs.Exchange.{lent, followsCommand}
 use Rattle.host_command.specs.Refusal.{refusalOf}
 use Rattle.host_flow.specs.declared.step.Step.the-variants.{Over}
@@ -22,22 +23,20 @@ use Rattle.joined.specs.Traffic.{hostAnswer, deviceAnswer, nextGreeting,
 use Rattle.joined.specs.Accepted.{effect, answerBytes, Accepted}
 use Rattle.joined.specs.Closed.{Closed}
 
--- where the device then stands: it has greeted again and waits for 01, or code runs
-abbrev pub deviceAt : Ending → Memories → device-state.State
-deviceAt ending.Silent m = device-state.state (Header TakeSoh) 0 m
-deviceAt (ending.Answers size) m = device-state.state (Header TakeSoh) 0 m
-deviceAt (ending.Runs address) m = device-state.state (Running address) 0 m
-deviceAt (ending.Failed why) m = device-state.state (Header TakeSoh) why m
+-- where the device then stands: it has greeted again and waits for 01, or code runs at the payload's address
+abbrev pub deviceAt : Follows → (payload : List ℕ) → Memories → device-state.State
+deviceAt (Answers size) payload m = device-state.state (Header TakeSoh) 0 m
+deviceAt Runs payload m = device-state.state (Running (addressAt 0 payload)) 0 m
+deviceAt Greets payload m = device-state.state (Header TakeSoh) 0 m
 
 pub record Line (opcode : Opcode) (payload answer : List ℕ) (m : Memories) : Type 0 where
   -- the next greeting is left untaken, and one command is executed
   pub closed :
       let follows = followsCommand opcode payload in
       let bytes = answerBytes opcode payload m in
-      let e = effect opcode payload m in
       Closed (lent (opcodeNumber opcode) payload answer) m
       (hostBytes opcode payload (hostAnswer follows bytes)) (deviceBytes payload (deviceAnswer follows bytes)) (nextGreeting follows)
-      (state Over 0 (lent (opcodeNumber opcode) payload (laid bytes answer))) (deviceAt (e .ending) (e .after)) 1
+      (state Over 0 (lent (opcodeNumber opcode) payload (laid bytes answer))) (deviceAt follows payload (effect opcode payload m .after)) 1
   pub host-sends : length (hostBytes opcode payload (hostAnswer (followsCommand opcode payload) (answerBytes opcode payload m)))
       ≡ payloadCount payload + answerCount (followsCommand opcode payload)
 
