@@ -38,11 +38,13 @@ Refused opcode payload answer m h used why count after =
     Closed c m h used greetingBytes (state Over deviceRefused c) (device-state.state (Header TakeSoh) why after) count
 
 -- 15 for the header, since the payload is longer than the work buffer: nothing is executed, and nothing has changed
+abbrev pub TooLong : Opcode → (payload answer : List ℕ) → Memories → Type 0
+TooLong opcode payload answer m = Refused opcode payload answer m (headerBytes opcode payload) (greetingBytes ++ (nak ∷ [])) longPayload 0 m
+
 abbrev pub HeaderRefused : Type 0
 HeaderRefused =
     (opcode : Opcode) (payload answer : List ℕ) (m : Memories) → refusalOf (lent (opcodeNumber opcode) payload answer) ≡ 0 → Fits m →
-    length (m .work) < length payload →
-    Refused opcode payload answer m (headerBytes opcode payload) (greetingBytes ++ (nak ∷ [])) longPayload 0 m
+    length (m .work) < length payload → TooLong opcode payload answer m
 
 -- the reasons against a payload
 abbrev pub payloadReasons : List ℕ
