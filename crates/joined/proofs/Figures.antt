@@ -1,9 +1,6 @@
 -- The figures, computed.
 -- Assumes nothing.
-use Prim.Native.Nat.{ℕ}
-use native.Mathlib.Omega.{arith}
-use mathlib.Core.Path.{_≡_, refl}
-use Rattle.wire.specs.Length.{isBetween, isFlashLength}
+use mathlib.Core.Path.{refl}
 use Rattle.wire.specs.Range.{liesIn, placeIn}
 use Rattle.numbers.specs.Number.{numberAt}
 use Rattle.crc.specs.Register.{leaving, moved, placed, afterBit, afterBits, afterByte, after}
@@ -14,9 +11,8 @@ use Rattle.command.specs.Check.{judged}
 use Rattle.command_execution.specs.Execution.{executed}
 use Rattle.uartboot_flow.specs.Flow.{crc16}
 use Rattle.host_command.specs.Exchange.{exchangeOf}
-use Rattle.host_command.specs.Refusal.{refusalOf}
 use Rattle.host_flow.specs.Flow.{payloadCrc, answerCrc}
-use Rattle.joined.specs.Figures.{VersionFigure, WriteFigure, LongFigure, ReadFigure, DirectFigure, SomeAccepted}
+use Rattle.joined.specs.Figures.{VersionFigure, WriteFigure, LongFigure, ReadFigure, DirectFigure}
 
 pub version-figure : VersionFigure
 unfolding drain feed uncut opcodeOf exchangeOf payloadCrc answerCrc crc16 executed judged liesIn placeIn numberAt crcOf after afterByte afterBits afterBit moved placed leaving
@@ -37,19 +33,3 @@ long-figure = record { host-is = refl; device-is = refl }
 pub direct-figure : DirectFigure
 unfolding drain feed uncut opcodeOf exchangeOf payloadCrc answerCrc crc16 executed judged liesIn placeIn numberAt crcOf after afterByte afterBits afterBit moved placed leaving
 direct-figure = record { host-is = refl; device-is = refl }
-
-pub some-accepted : SomeAccepted
-unfolding exchangeOf opcodeOf refusalOf executed judged liesIn placeIn numberAt isBetween isFlashLength
-some-accepted =
-    record {
-      version-accepted = record {
-        good = record { fitting = record { ram-length = refl; flash-length = refl; work-length = refl }; has-length = refl; in-work = omega arith; passes = refl };
-        verified = λ e. let z : _≡_ {A = ℕ} 0 1 = cc in omega arith;
-      };
-      version-lent = refl;
-      write-accepted = record {
-        good = record { fitting = record { ram-length = refl; flash-length = refl; work-length = refl }; has-length = refl; in-work = omega arith; passes = refl };
-        verified = λ e. let z : _≡_ {A = ℕ} 0 1 = cc in omega arith;
-      };
-      write-lent = refl;
-    }

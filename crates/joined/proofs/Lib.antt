@@ -8,3 +8,4 @@ pub mod Lines
 pub mod Refusals
 pub mod Verdicts
 pub mod Figures
+pub mod Witnesses

@@ -6,26 +6,23 @@ use mathlib.Core.List.{List, [], _∷_, _++_}
 use lib.ListN.{length, replicate}
 use Rattle.memory.specs.Memories.{Memories, memories}
 use Rattle.machine.specs.Uncut.{uncut}
-use Rattle.opcodes.specs.declared.Opcode.the-variants.{Write, Version}
 use Rattle.uartboot_flow.specs.declared.step.Step.the-variants.{Header}
 use Rattle.uartboot_flow.specs.declared.step.HeaderStep.the-variants.{TakeSoh}
 use Rattle.uartboot_flow.specs.State as device-state
 use Rattle.uartboot_flow.specs.Device.{device}
 use Rattle.uartboot_flow.specs.Fresh as device-fresh
 use Rattle.host_command.specs.Exchange.{Lent, lent}
-use Rattle.host_command.specs.Refusal.{refusalOf}
 use Rattle.host_flow.specs.declared.step.Step.the-variants.{Over}
 use Rattle.host_flow.specs.State.{State, state}
 use Rattle.host_flow.specs.Host.{host}
 use Rattle.host_flow.specs.Fresh.{fresh}
-use Rattle.joined.specs.Accepted.{Accepted}
 
 -- what each side does when it is fed the other's bytes
 pub record Figure (c : Lent) (m : Memories) (said heard : List ℕ) (taken : ℕ) (host-end : State) (device-end : device-state.State) : Type 0 where
   pub host-is : uncut host (fresh c) heard ≡ record { replies = said; taken = taken; final = host-end }
   pub device-is : uncut device (device-fresh.fresh m) said ≡ record { replies = heard; taken = length said; final = device-end }
 
--- RAM, flash and work buffer of a few bytes
+-- RAM, flash and work buffer of a few bytes: a call would refuse these lengths, but the flows don't look at them
 abbrev pub small : (ram : List ℕ) (flash : ℕ) (work : List ℕ) → Memories
 small ram flash work = memories ram (flash ∷ replicate 3 0xFF) (work ++ replicate 9 0x00)
 
@@ -80,13 +77,3 @@ DirectFigure =
     (0x01 ∷ 0x12 ∷ 0x06 ∷ 0x00 ∷ (directPayload ++ (0x06 ∷ [])))
     (0x02 ∷ 0x01 ∷ 0x00 ∷ 0x03 ∷ 0x06 ∷ 0x06 ∷ 0xAF ∷ 0xA4 ∷ 0x15 ∷ 0x02 ∷ 0x01 ∷ 0x00 ∷ 0x03 ∷ []) 9
     (state Over 73 (lent 0x12 directPayload [])) (device-state.state (Header TakeSoh) 18 (small (replicate 4 0x00) 0x00 directPayload))
-
--- memories of accepted lengths, and commands that a host and a session with them accept
-abbrev pub sample : Memories
-sample = memories (replicate 2 0x00) (replicate 4096 0xFF) (replicate 64 0x00)
-
-pub record SomeAccepted : Type 0 where
-  pub version-accepted : Accepted Version [] sample
-  pub version-lent : refusalOf (lent 0x0B [] (replicate 7 0x00)) ≡ 0
-  pub write-accepted : Accepted Write writePayload sample
-  pub write-lent : refusalOf (lent 0x01 writePayload []) ≡ 0

@@ -6,3 +6,4 @@ pub mod Line
 pub mod Refused
 pub mod Verdict
 pub mod Figures
+pub mod Witnesses
