@@ -20,14 +20,14 @@ use Rattle.host_command.specs.Refusal.{refusalOf}
 use Rattle.joined.specs.Accepted.{against, effect, Fits, Accepted}
 use Rattle.joined.specs.Witnesses.{sample, SomeAccepted, SomeRefused}
 
-fits : (flash : ℕ) → Fits (sample flash)
+fitting : (flash : ℕ) → Fits (sample flash)
 unfolding isBetween isFlashLength
-fits flash = record { ram-length = refl; flash-length = refl; work-length = refl }
+fitting flash = record { ram-length = refl; flash-length = refl; work-length = refl }
 
 accepts : (opcode : Opcode) (payload : List ℕ) → hasLength opcode (length payload) ≡ true → length payload ≤ 64 → against opcode payload (sample 0xFF) ≡ 0 →
     (effect opcode payload (sample 0xFF) .ending ≡ Failed verifyDiffers → ⊥) → Accepted opcode payload (sample 0xFF)
 accepts opcode payload has small passes verified =
-    record { good = record { fitting = fits 0xFF; has-length = has; in-work = small; passes = passes }; verified = verified }
+    record { good = record { fitting = fitting 0xFF; has-length = has; in-work = small; passes = passes }; verified = verified }
 
 pub some-accepted : SomeAccepted
 unfolding exchangeOf opcodeOf refusalOf executed judged liesIn placeIn numberAt
@@ -48,13 +48,13 @@ pub some-refused : SomeRefused
 unfolding exchangeOf opcodeOf refusalOf executed judged liesIn placeIn numberAt
 some-refused =
     record {
-      fitting = fits 0xFF;
+      fitting = fitting 0xFF;
       long-not-refused = refl;
       long = omega arith;
       empty-not-refused = refl;
       empty-in-work = omega arith;
       empty-fails = λ e. omega arith;
       direct-not-refused = refl;
-      direct-passes = record { fitting = fits 0x0F; has-length = refl; in-work = omega arith; passes = refl };
+      direct-passes = record { fitting = fitting 0x0F; has-length = refl; in-work = omega arith; passes = refl };
       direct-differs = refl;
     }

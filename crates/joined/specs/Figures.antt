@@ -12,19 +12,23 @@ use Rattle.uartboot_flow.specs.State as device-state
 use Rattle.uartboot_flow.specs.Device.{device}
 use Rattle.uartboot_flow.specs.Fresh as device-fresh
 use Rattle.host_command.specs.Exchange.{Lent, lent}
+use Rattle.host_command.specs.Refusal.{refusalOf}
 use Rattle.host_flow.specs.declared.step.Step.the-variants.{Over}
 use Rattle.host_flow.specs.State.{State, state}
 use Rattle.host_flow.specs.Host.{host}
 use Rattle.host_flow.specs.Fresh.{fresh}
+use Rattle.joined.specs.Accepted.{Fits}
 
--- what each side does when it is fed the other's bytes
+-- what each side does when it is fed the other's bytes, for a command that the host doesn't refuse and memories of accepted lengths
 pub record Figure (c : Lent) (m : Memories) (said heard : List ℕ) (taken : ℕ) (host-end : State) (device-end : device-state.State) : Type 0 where
+  pub not-refused : refusalOf c ≡ 0
+  pub fitting : Fits m
   pub host-is : uncut host (fresh c) heard ≡ record { replies = said; taken = taken; final = host-end }
   pub device-is : uncut device (device-fresh.fresh m) said ≡ record { replies = heard; taken = length said; final = device-end }
 
--- RAM, flash and work buffer of a few bytes: a call would refuse these lengths, but the flows don't look at them
+-- a sector of flash that begins with this byte, and a work buffer that begins with these
 abbrev pub small : (ram : List ℕ) (flash : ℕ) (work : List ℕ) → Memories
-small ram flash work = memories ram (flash ∷ replicate 3 0xFF) (work ++ replicate 9 0x00)
+small ram flash work = memories ram (flash ∷ replicate 4095 0xFF) (work ++ replicate 58 0x00)
 
 -- the 7 characters 0.0.0.3, in an answer buffer of 8 bytes
 abbrev pub versionText : List ℕ
@@ -51,10 +55,10 @@ WriteFigure =
 -- a Write that is longer than the work buffer
 abbrev pub LongFigure : Type 0
 LongFigure =
-    Figure (lent 0x01 (replicate 17 0x00) []) (small (replicate 4 0x00) 0xFF (replicate 6 0x00))
-    (0x01 ∷ 0x01 ∷ 0x11 ∷ 0x00 ∷ [])
+    Figure (lent 0x01 (replicate 65 0x00) []) (small (replicate 4 0x00) 0xFF (replicate 6 0x00))
+    (0x01 ∷ 0x01 ∷ 0x41 ∷ 0x00 ∷ [])
     (0x02 ∷ 0x01 ∷ 0x00 ∷ 0x03 ∷ 0x15 ∷ 0x02 ∷ 0x01 ∷ 0x00 ∷ 0x03 ∷ []) 5
-    (state Over 73 (lent 0x01 (replicate 17 0x00) [])) (device-state.state (Header TakeSoh) 13 (small (replicate 4 0x00) 0xFF (replicate 6 0x00)))
+    (state Over 73 (lent 0x01 (replicate 65 0x00) [])) (device-state.state (Header TakeSoh) 13 (small (replicate 4 0x00) 0xFF (replicate 6 0x00)))
 
 -- a Read of no bytes
 abbrev pub readPayload : List ℕ

@@ -5,7 +5,7 @@ use Prim.Native.Nat.{ℕ, _≤_, _<_}
 use mathlib.Core.Path.{_≡_}
 use mathlib.Core.List.{List, [], _∷_}
 use lib.ListN.{length, replicate}
-use Rattle.memory.specs.Memories.{Memories, memories}
+use Rattle.memory.specs.Memories.{Memories}
 use Rattle.opcodes.specs.declared.Opcode.{Opcode}
 use Rattle.opcodes.specs.declared.Opcode.the-variants.{Write, Read, Copy, Erase, Run, ReadQspi, Version, ChipErase, DirectWrite}
 use Rattle.opcodes.specs.Opcode.{opcodeNumber}
@@ -14,11 +14,11 @@ use Rattle.command_execution.specs.Execution.{verifyDiffers}
 use Rattle.host_command.specs.Exchange.{lent}
 use Rattle.host_command.specs.Refusal.{refusalOf}
 use Rattle.joined.specs.Accepted.{against, effect, Fits, Passes, Accepted}
-use Rattle.joined.specs.Figures.{writePayload, readPayload, directPayload}
+use Rattle.joined.specs.Figures.{small, writePayload, readPayload, directPayload}
 
 -- 2 bytes of RAM, a sector of flash that begins with this byte, 64 bytes of work buffer
 abbrev pub sample : (flash : ℕ) → Memories
-sample flash = memories (0x00 ∷ 0x00 ∷ []) (flash ∷ replicate 4095 0xFF) (replicate 64 0x00)
+sample flash = small (replicate 2 0x00) flash (replicate 6 0x00)
 
 -- the host doesn't refuse the command, and the session accepts it
 pub record Taken (opcode : Opcode) (payload answer : List ℕ) : Type 0 where
