@@ -9,4 +9,5 @@ pub mod Rounds
 pub mod Diligences
 pub mod Briefs
 pub mod Lists
+pub mod Programs
 pub mod CleanLines

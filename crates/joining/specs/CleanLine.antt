@@ -7,6 +7,7 @@ use Rattle.joining.specs.Closing.{ClosesAlone}
 use Rattle.joining.specs.Schedules.{EverySchedule}
 use Rattle.joining.specs.Diligence.{Diligent}
 use Rattle.joining.specs.Lists.{EveryList, DiligentLists}
+use Rattle.joining.specs.Programs.{EveryProgram}
 
 -- from s and t the left one sends h and the right one r, however they are called
 pub record CleanLine {M N S K : Type 0} (σ : Session ℕ M S) (τ : Session ℕ N K) (s : S) (t : K) (h r : List ℕ) : Type 0 where
@@ -16,3 +17,5 @@ pub record CleanLine {M N S K : Type 0} (σ : Session ℕ M S) (τ : Session ℕ
   -- the same of calls on the sessions, with records and memories handed back
   pub lists : EveryList σ τ s t h r
   pub diligent-lists : DiligentLists σ τ s t h r
+  -- and of what a program's calls gave back
+  pub programs : EveryProgram σ τ s t h r

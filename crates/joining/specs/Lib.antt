@@ -8,4 +8,5 @@ pub mod Rounds
 pub mod Diligence
 pub mod Sides
 pub mod Lists
+pub mod Programs
 pub mod CleanLine
