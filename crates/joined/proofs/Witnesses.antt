@@ -33,15 +33,15 @@ pub some-accepted : SomeAccepted
 unfolding exchangeOf opcodeOf refusalOf executed judged liesIn placeIn numberAt
 some-accepted =
     record {
-      write-taken = record { not-refused = refl; accepted = accepts Write _ refl (omega arith) refl (λ e. let z : _≡_ {A = ℕ} 0 1 = cc in omega arith) };
-      read-taken = record { not-refused = refl; accepted = accepts Read _ refl (omega arith) refl (λ e. let z : _≡_ {A = ℕ} 0 1 = cc in omega arith) };
-      copy-taken = record { not-refused = refl; accepted = accepts Copy _ refl (omega arith) refl (λ e. let z : _≡_ {A = ℕ} 0 1 = cc in omega arith) };
-      erase-taken = record { not-refused = refl; accepted = accepts Erase _ refl (omega arith) refl (λ e. let z : _≡_ {A = ℕ} 0 1 = cc in omega arith) };
-      run-taken = record { not-refused = refl; accepted = accepts Run _ refl (omega arith) refl (λ e. let z : _≡_ {A = ℕ} 0 1 = cc in omega arith) };
-      read-qspi-taken = record { not-refused = refl; accepted = accepts ReadQspi _ refl (omega arith) refl (λ e. let z : _≡_ {A = ℕ} 0 1 = cc in omega arith) };
-      version-taken = record { not-refused = refl; accepted = accepts Version _ refl (omega arith) refl (λ e. let z : _≡_ {A = ℕ} 0 1 = cc in omega arith) };
-      chip-erase-taken = record { not-refused = refl; accepted = accepts ChipErase _ refl (omega arith) refl (λ e. let z : _≡_ {A = ℕ} 0 1 = cc in omega arith) };
-      direct-write-taken = record { not-refused = refl; accepted = accepts DirectWrite _ refl (omega arith) refl (λ e. let z : _≡_ {A = ℕ} 0 1 = cc in omega arith) };
+      write-accepted = record { not-refused = refl; accepted = accepts Write _ refl (omega arith) refl (λ e. let z : _≡_ {A = ℕ} 0 1 = cc in omega arith) };
+      read-accepted = record { not-refused = refl; accepted = accepts Read _ refl (omega arith) refl (λ e. let z : _≡_ {A = ℕ} 0 1 = cc in omega arith) };
+      copy-accepted = record { not-refused = refl; accepted = accepts Copy _ refl (omega arith) refl (λ e. let z : _≡_ {A = ℕ} 0 1 = cc in omega arith) };
+      erase-accepted = record { not-refused = refl; accepted = accepts Erase _ refl (omega arith) refl (λ e. let z : _≡_ {A = ℕ} 0 1 = cc in omega arith) };
+      run-accepted = record { not-refused = refl; accepted = accepts Run _ refl (omega arith) refl (λ e. let z : _≡_ {A = ℕ} 0 1 = cc in omega arith) };
+      read-qspi-accepted = record { not-refused = refl; accepted = accepts ReadQspi _ refl (omega arith) refl (λ e. let z : _≡_ {A = ℕ} 0 1 = cc in omega arith) };
+      version-accepted = record { not-refused = refl; accepted = accepts Version _ refl (omega arith) refl (λ e. let z : _≡_ {A = ℕ} 0 1 = cc in omega arith) };
+      chip-erase-accepted = record { not-refused = refl; accepted = accepts ChipErase _ refl (omega arith) refl (λ e. let z : _≡_ {A = ℕ} 0 1 = cc in omega arith) };
+      direct-write-accepted = record { not-refused = refl; accepted = accepts DirectWrite _ refl (omega arith) refl (λ e. let z : _≡_ {A = ℕ} 0 1 = cc in omega arith) };
     }
 
 pub some-refused : SomeRefused

@@ -21,26 +21,26 @@ abbrev pub sample : (flash : ℕ) → Memories
 sample flash = small (replicate 2 0x00) flash (replicate 6 0x00)
 
 -- the host doesn't refuse the command, and the session accepts it
-pub record Taken (opcode : Opcode) (payload answer : List ℕ) : Type 0 where
+pub record BothAccept (opcode : Opcode) (payload answer : List ℕ) : Type 0 where
   pub not-refused : refusalOf (lent (opcodeNumber opcode) payload answer) ≡ 0
   pub accepted : Accepted opcode payload (sample 0xFF)
 
 pub record SomeAccepted : Type 0 where
-  pub write-taken : Taken Write writePayload []
+  pub write-accepted : BothAccept Write writePayload []
   -- RAM's 2 bytes
-  pub read-taken : Taken Read (0x00 ∷ 0x00 ∷ 0xFC ∷ 0x07 ∷ 0x02 ∷ 0x00 ∷ []) (replicate 2 0x00)
+  pub read-accepted : BothAccept Read (0x00 ∷ 0x00 ∷ 0xFC ∷ 0x07 ∷ 0x02 ∷ 0x00 ∷ []) (replicate 2 0x00)
   -- RAM's 2 bytes to flash's first ones
-  pub copy-taken : Taken Copy (0x00 ∷ 0x00 ∷ 0xFC ∷ 0x07 ∷ 0x02 ∷ 0x00 ∷ 0x00 ∷ 0x00 ∷ 0x00 ∷ 0x00 ∷ []) []
+  pub copy-accepted : BothAccept Copy (0x00 ∷ 0x00 ∷ 0xFC ∷ 0x07 ∷ 0x02 ∷ 0x00 ∷ 0x00 ∷ 0x00 ∷ 0x00 ∷ 0x00 ∷ []) []
   -- flash's last byte, and so its sector
-  pub erase-taken : Taken Erase (0xFF ∷ 0x0F ∷ 0x00 ∷ 0x00 ∷ 0x01 ∷ 0x00 ∷ 0x00 ∷ 0x00 ∷ []) []
+  pub erase-accepted : BothAccept Erase (0xFF ∷ 0x0F ∷ 0x00 ∷ 0x00 ∷ 0x01 ∷ 0x00 ∷ 0x00 ∷ 0x00 ∷ []) []
   -- at RAM's last byte
-  pub run-taken : Taken Run (0x01 ∷ 0x00 ∷ 0xFC ∷ 0x07 ∷ []) []
+  pub run-accepted : BothAccept Run (0x01 ∷ 0x00 ∷ 0xFC ∷ 0x07 ∷ []) []
   -- flash's last 2 bytes
-  pub read-qspi-taken : Taken ReadQspi (0xFE ∷ 0x0F ∷ 0x00 ∷ 0x00 ∷ 0x02 ∷ 0x00 ∷ []) (replicate 2 0x00)
-  pub version-taken : Taken Version [] (replicate 7 0x00)
-  pub chip-erase-taken : Taken ChipErase [] []
+  pub read-qspi-accepted : BothAccept ReadQspi (0xFE ∷ 0x0F ∷ 0x00 ∷ 0x00 ∷ 0x02 ∷ 0x00 ∷ []) (replicate 2 0x00)
+  pub version-accepted : BothAccept Version [] (replicate 7 0x00)
+  pub chip-erase-accepted : BothAccept ChipErase [] []
   -- F0 over FF, with verify
-  pub direct-write-taken : Taken DirectWrite directPayload []
+  pub direct-write-accepted : BothAccept DirectWrite directPayload []
 
 -- a payload of 65 bytes
 abbrev pub tooMuch : List ℕ
