@@ -24,5 +24,6 @@ pub record Closed (c : Lent) (m : Memories) (h used left : List ℕ) (host-end :
   pub host-is : uncut host (fresh c) (used ++ left) ≡ record { replies = h; taken = length used; final = host-end }
   pub device-is : uncut device (device-fresh.fresh m) h ≡ record { replies = used ++ left; taken = length h; final = device-end }
   pub executions : Executions m h count
-  -- nothing else closes; every schedule, and every list of calls on both sessions, keeps to these bytes, and a diligent one ends there
+  -- nothing else closes; every schedule, and every list of calls on both sessions, keeps to these bytes, with each side so once it is
+  -- over, and a diligent one ends there
   pub line : CleanLine hostSession uartboot (fresh c) (device-fresh.fresh m) h (used ++ left)

@@ -33,8 +33,8 @@ pub record SomeAccepted : Type 0 where
   pub copy-accepted : BothAccept Copy (0x00 ∷ 0x00 ∷ 0xFC ∷ 0x07 ∷ 0x02 ∷ 0x00 ∷ 0x00 ∷ 0x00 ∷ 0x00 ∷ 0x00 ∷ []) []
   -- flash's last byte, and so its sector
   pub erase-accepted : BothAccept Erase (0xFF ∷ 0x0F ∷ 0x00 ∷ 0x00 ∷ 0x01 ∷ 0x00 ∷ 0x00 ∷ 0x00 ∷ []) []
-  -- at RAM's last byte
-  pub run-accepted : BothAccept Run (0x01 ∷ 0x00 ∷ 0xFC ∷ 0x07 ∷ []) []
+  -- at RAM's first byte
+  pub run-accepted : BothAccept Run (0x00 ∷ 0x00 ∷ 0xFC ∷ 0x07 ∷ []) []
   -- flash's last 2 bytes
   pub read-qspi-accepted : BothAccept ReadQspi (0xFE ∷ 0x0F ∷ 0x00 ∷ 0x00 ∷ 0x02 ∷ 0x00 ∷ []) (replicate 2 0x00)
   pub version-accepted : BothAccept Version [] (replicate 7 0x00)

@@ -1,5 +1,5 @@
--- The same of what a program's calls on two joined sessions gave back: where each is what the definition says, with the record and the
--- memories that the last call on that side left, they keep to the bytes h and r (rules, 15.9).
+-- What a program's calls on two joined sessions gave back, each as the definition says, with the record and the memories that the last
+-- call on that side left: what is claimed of lists of calls holds of them (rules, 15.9).
 -- Assumes nothing.
 use Prim.Native.Nat.{ℕ, _≤_}
 use mathlib.Core.Path.{_≡_}
