@@ -35,21 +35,6 @@ one-byte DirectWrite = refl
 pub number-byte : (n : ℕ) (opcode : Opcode) → opcodeOf n ≡ Known opcode → lowByte n ≡ n
 number-byte n opcode e = rw (← opcode-number n opcode e) (one-byte opcode)
 
--- what is known of an accepted command: it is one, and its answer has room
-pub record Fits (c : Lent) : Type 0 where
-  pub is-command : isCommand (opcodeOf (c .opcode)) (length (c .payload)) ≡ true
-  pub has-room : awaited c ≤ length (c .answer)
-
-pub fits : (c : Lent) → refusalOf c ≡ 0 → Fits c
-unfolding refusalOf
-fits c e = go (isCommand (opcodeOf (c .opcode)) (length (c .payload))) (ltb (length (c .answer)) (awaited c)) refl refl e
-  where
-    go : (x y : Bool) → isCommand (opcodeOf (c .opcode)) (length (c .payload)) ≡ x → ltb (length (c .answer)) (awaited c) ≡ y →
-        _≡_ {A = ℕ} (cond (not x) badCommand (cond y shortAnswer 0)) 0 → Fits c
-    go true true a b z = absurd (let w : ⊥ = omega arith in w)
-    go true false a b z = record { is-command = a; has-room = ltb-false _ _ b }
-    go false y a b z = absurd (let w : ⊥ = omega arith in w)
-
 module _ (c : Lent) where
   pub no-command : isCommand (opcodeOf (c .opcode)) (length (c .payload)) ≡ false → Refused badCommand ≡ judgedOf c
   unfolding refusalOf
@@ -94,3 +79,18 @@ module _ (n : ℕ) (payload answer : List ℕ) (opcode : Opcode) (known : opcode
       pub taken : (f : Follows) → f ≡ followsCommand opcode payload → awaitedOf f ≤ length answer → (b : ℕ) → b ≡ lowByte n →
           Accepted (record { opcode = b; size = length payload; follows = f }) ≡ judgedOf c
       taken f e h b q = ap Accepted (same-exchange f e b q) ∙ good c is-one (rw (follows-is, ← e) h)
+
+-- what is known of an accepted command: it is one, and its answer has room
+pub record Fits (c : Lent) : Type 0 where
+  pub is-command : isCommand (opcodeOf (c .opcode)) (length (c .payload)) ≡ true
+  pub has-room : awaited c ≤ length (c .answer)
+
+pub fits : (c : Lent) → refusalOf c ≡ 0 → Fits c
+unfolding refusalOf
+fits c e = go (isCommand (opcodeOf (c .opcode)) (length (c .payload))) (ltb (length (c .answer)) (awaited c)) refl refl e
+  where
+    go : (x y : Bool) → isCommand (opcodeOf (c .opcode)) (length (c .payload)) ≡ x → ltb (length (c .answer)) (awaited c) ≡ y →
+        _≡_ {A = ℕ} (cond (not x) badCommand (cond y shortAnswer 0)) 0 → Fits c
+    go true true a b z = absurd (let w : ⊥ = omega arith in w)
+    go true false a b z = record { is-command = a; has-room = ltb-false _ _ b }
+    go false y a b z = absurd (let w : ⊥ = omega arith in w)
