@@ -9,10 +9,10 @@ use crate::decimal::Decimal;
 use crate::decimal::decimal_at;
 
 // How many bytes a version field has.
-const FIELD: usize = 16;
+pub const FIELD: usize = 16;
 
 // How many numbers a text has at most, and a rank always.
-const NUMBERS: usize = 4;
+pub const NUMBERS: usize = 4;
 
 // The number given for malformed text, or a field of another length.
 pub const MALFORMED: u32 = 61;
