@@ -12,7 +12,7 @@
  *
  * - Number 0 in a result is success. Any other number is a refusal: the rest of the result is 0, and nothing that was
  *   lent has been written. Where several numbers fit, the one that is listed first is given.
- * - A pointer to bytes may be NULL only where its length is 0. Bytes need no alignment.
+ * - A pointer to bytes or to numbers may be NULL only where its length is 0. Bytes need no alignment.
  * - A record is eight words with the alignment of uint32_t, and never NULL.
  * - No two things that are lent to one call may overlap, and nobody else writes them until it returns.
  * - No function keeps a pointer once it has returned, has state of its own, or allocates. So sessions with records and
@@ -67,6 +67,8 @@ enum {
     UND_MALFORMED_VERSION = 61,
     UND_INSTALLED_NOT_VALID = 62,
     UND_CANDIDATE_NOT_VALID = 63,
+    UND_BAD_TRAY = 64,
+    UND_SHORT_RANKS = 65,
     UND_BAD_COMMAND = 71,
     UND_SHORT_ANSWER = 72
 };
@@ -79,12 +81,13 @@ enum {
  */
 
 enum {
-    UND_VERSION_FIELD = 16 /* bytes */
+    UND_VERSION_FIELD = 16, /* bytes */
+    UND_RANK_NUMBERS = 4    /* numbers of a rank */
 };
 
 typedef struct {
     uint32_t number;
-    uint32_t rank[4];
+    uint32_t rank[UND_RANK_NUMBERS];
 } und_ranked;
 
 /* The numbers of a version, missing ones 0.
@@ -108,6 +111,23 @@ typedef struct {
  * Writes:  nothing that is lent
  */
 und_ordered und_order(const uint8_t *a, size_t a_len, const uint8_t *b, size_t b_len);
+
+enum {
+    UND_TRAY_MAX = 1024,                  /* fields of a tray */
+    UND_TRAY_ENTRY = UND_RANK_NUMBERS + 1 /* numbers of an entry */
+};
+
+/* The ranks of a tray: up to UND_TRAY_MAX version fields, one after the other in `fields`. In the same order, each
+ * gets an entry in `ranks`: what und_rank gives for it alone, its rank and then 0, or zeros and then 61 where it is
+ * malformed. A malformed field does not refuse the call, and neither does a tray of no fields, which writes nothing.
+ * ranks_len counts numbers, not bytes. The numbers have the alignment of uint32_t.
+ *
+ * Gives:   0
+ *          64  fields_len is not a multiple of 16, or the fields are more than UND_TRAY_MAX
+ *          65  ranks_len is less than UND_TRAY_ENTRY for each field
+ * Writes:  the entries, at the front of ranks; numbers past them keep their contents
+ */
+uint32_t und_rank_tray(const uint8_t *fields, size_t fields_len, uint32_t *ranks, size_t ranks_len);
 
 /* ---- Images ----
  *

@@ -1,0 +1,3 @@
+pub mod Tray
+pub mod Entry
+pub mod Figures
