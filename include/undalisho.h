@@ -12,7 +12,8 @@
  *
  * - Number 0 in a result is success. Any other number is a refusal: the rest of the result is 0, and nothing that was
  *   lent has been written. Where several numbers fit, the one that is listed first is given.
- * - A pointer to bytes or to numbers may be NULL only where its length is 0. Bytes need no alignment.
+ * - A pointer to bytes or to numbers may be NULL only where its length is 0. Bytes need no alignment; numbers have that
+ *   of uint32_t.
  * - A record is eight words with the alignment of uint32_t, and never NULL.
  * - No two things that are lent to one call may overlap, and nobody else writes them until it returns.
  * - No function keeps a pointer once it has returned, has state of its own, or allocates. So sessions with records and
@@ -81,8 +82,10 @@ enum {
  */
 
 enum {
-    UND_VERSION_FIELD = 16, /* bytes */
-    UND_RANK_NUMBERS = 4    /* numbers of a rank */
+    UND_VERSION_FIELD = 16,               /* bytes of a field */
+    UND_RANK_NUMBERS = 4,                 /* numbers of a rank */
+    UND_TRAY_MAX = 1024,                  /* fields of a tray: at most this */
+    UND_TRAY_ENTRY = UND_RANK_NUMBERS + 1 /* numbers of an entry of a tray */
 };
 
 typedef struct {
@@ -112,20 +115,15 @@ typedef struct {
  */
 und_ordered und_order(const uint8_t *a, size_t a_len, const uint8_t *b, size_t b_len);
 
-enum {
-    UND_TRAY_MAX = 1024,                  /* fields of a tray */
-    UND_TRAY_ENTRY = UND_RANK_NUMBERS + 1 /* numbers of an entry */
-};
-
-/* The ranks of a tray: up to UND_TRAY_MAX version fields, one after the other in `fields`. In the same order, each
- * gets an entry in `ranks`: what und_rank gives for it alone, its rank and then 0, or zeros and then 61 where it is
- * malformed. A malformed field does not refuse the call, and neither does a tray of no fields, which writes nothing.
- * ranks_len counts numbers, not bytes. The numbers have the alignment of uint32_t.
+/* The ranks of a tray: version fields, one after the other. Each gets an entry in `ranks`, in the same order: what
+ * und_rank gives for it alone, its rank and then 0, or zeros and then 61 where it is malformed. The entry of field i,
+ * from 0 on, begins at ranks[i * UND_TRAY_ENTRY]. A malformed field does not refuse the call, and neither does a tray
+ * of no fields, for which nothing is written. ranks_len counts numbers, not bytes.
  *
- * Gives:   0
+ * Number:  0
  *          64  fields_len is not a multiple of 16, or the fields are more than UND_TRAY_MAX
  *          65  ranks_len is less than UND_TRAY_ENTRY for each field
- * Writes:  the entries, at the front of ranks; numbers past them keep their contents
+ * Writes:  the entries, at the front of ranks; the numbers past them keep their contents
  */
 uint32_t und_rank_tray(const uint8_t *fields, size_t fields_len, uint32_t *ranks, size_t ranks_len);
 
