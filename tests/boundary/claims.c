@@ -166,6 +166,8 @@ static void null_where_empty(void)
     und_rom_fresh(UND_KIND_P, record);
     HOLD(und_rank(NULL, 0).number == 61);
     HOLD(und_order(NULL, 0, NULL, 0).number == 61);
+    HOLD(und_rank_tray(NULL, 0, NULL, 0) == 0);
+    HOLD(und_rank_tray(ram, UND_VERSION_FIELD, NULL, 0) == 65);
     HOLD(und_select(NULL, 0, 0).number == 3);
     HOLD(und_offer(NULL, 0, NULL, 0).number == 62);
     HOLD(und_read_image(NULL, 0, 0).rule == UND_RULE_HEADER);

@@ -15,6 +15,16 @@ static int versions(void)
     return und_rank(high, 16).rank[1] == 10 && und_order(low, 16, high, 16).order == -1;
 }
 
+/* Two fields, of which the second is empty. */
+static int trays(void)
+{
+    const uint8_t fields[2 * UND_VERSION_FIELD] = {'1', '.', '9'};
+    uint32_t ranks[2 * UND_TRAY_ENTRY];
+
+    return und_rank_tray(fields, sizeof fields, ranks, 2 * UND_TRAY_ENTRY) == 0 && ranks[1] == 9 &&
+           ranks[UND_RANK_NUMBERS] == 0 && ranks[UND_TRAY_ENTRY + UND_RANK_NUMBERS] == 61;
+}
+
 static int images(void)
 {
     return und_select(flash, sizeof flash, 0).number == 52 && und_offer(flash, 64, flash + 64, 64).number == 62 &&
@@ -82,7 +92,7 @@ static int hosts(void)
 
 int main(void)
 {
-    if (versions() && images() && readings() && makings() && receivers() && uartboot() && hosts())
+    if (versions() && trays() && images() && readings() && makings() && receivers() && uartboot() && hosts())
         return 0;
     fprintf(stderr, "installed: the library answers otherwise\n");
     return 1;

@@ -20,6 +20,7 @@ static void refusals(void)
     und_image_header image = und_make_image_header(code, 1, 0, field, sizeof field, 0);
     und_product_header product = und_make_product_header(0, 0);
     uint8_t file[sizeof image.bytes + 1] = {0};
+    uint32_t ranks[UND_TRAY_ENTRY];
 
     HOLD(und_rank(field, UND_VERSION_FIELD).number == 0);
     HOLD(call_number(1, sizeof flash, 0) == UND_BAD_WORK);
@@ -39,6 +40,8 @@ static void refusals(void)
     HOLD(und_offer(flash, sizeof flash, file, sizeof file).number == UND_INSTALLED_NOT_VALID);
     HOLD(und_offer(file, sizeof file, flash, sizeof flash).number == UND_CANDIDATE_NOT_VALID);
     HOLD(und_rank(flash, UND_VERSION_FIELD).number == UND_MALFORMED_VERSION);
+    HOLD(und_rank_tray(field, 1, ranks, UND_TRAY_ENTRY) == UND_BAD_TRAY);
+    HOLD(und_rank_tray(field, sizeof field, ranks, UND_TRAY_ENTRY - 1) == UND_SHORT_RANKS);
     und_host_fresh(record);
     HOLD(und_host_call(record, 0x07, NULL, 0, NULL, 0, NULL, 0, NULL, 0).number == UND_BAD_COMMAND);
     HOLD(und_host_call(record, 0x0B, NULL, 0, NULL, 0, NULL, 0, reply, 6).number == UND_SHORT_ANSWER);

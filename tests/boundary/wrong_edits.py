@@ -15,6 +15,7 @@ from agree import COMPARED, INSTALLED, Differs, agree
 
 HEADER = "include/undalisho.h"
 CAPI, OFFER = "crates/capi/src/lib.rt", "crates/offer/src/lib.rt"
+CAPI_TRAY = "crates/capi_tray/src/lib.rt"
 CAPI_FRAME, FRAME = "crates/capi_frame/src/lib.rt", "crates/frame/src/lib.rt"
 CAPI_ROM, CAPI_UARTBOOT, CALLED = "crates/capi_rom/src/lib.rt", "crates/capi_uartboot/src/lib.rt", "crates/called/src/lib.rt"
 CAPI_HOST = "crates/capi_host/src/lib.rt"
@@ -49,7 +50,7 @@ EDITS = {
         ("byte of 32 bits as parameter", "uint8_t id,", "uint32_t id,", "conflicting types for 'und_make_image_header'"),
         ("byte of 32 bits as result", "uint8_t und_next_id(", "uint32_t und_next_id(", "conflicting types for 'und_next_id'"),
         ("time of 64 bits", "uint32_t time);", "uint64_t time);", "conflicting types for 'und_make_image_header'"),
-        ("const dropped", "(const uint8_t *field", "(uint8_t *field", "conflicting types for 'und_rank'"),
+        ("const dropped", "(const uint8_t *field,", "(uint8_t *field,", "conflicting types for 'und_rank'"),
         ("const added", "uint8_t *work, size_t", "const uint8_t *work, size_t", "conflicting types for 'und_uartboot_call'"),
         ("record that is only read", "uartboot_fresh(uint32_t record[8])", "uartboot_fresh(const uint32_t record[8])",
          "conflicting types for 'und_uartboot_fresh'"),
@@ -73,6 +74,13 @@ EDITS = {
          "the header gives und_read_product the parameters"),
         ("offsets swapped", "uint32_t first, uint32_t second", "uint32_t second, uint32_t first",
          "the header gives und_make_product_header the parameters"),
+        ("room of bytes", "uint32_t *ranks,", "uint8_t *ranks,", "conflicting types for 'und_rank_tray'"),
+        ("room that is only read", "uint32_t *ranks,", "const uint32_t *ranks,", "conflicting types for 'und_rank_tray'"),
+        ("room without a length", ", size_t ranks_len", "", "conflicting types for 'und_rank_tray'"),
+        ("lengths of a tray swapped", "size_t fields_len, uint32_t *ranks, size_t ranks_len",
+         "size_t ranks_len, uint32_t *ranks, size_t fields_len", "the header gives und_rank_tray the parameters"),
+        ("struct in place of a number", "uint32_t und_rank_tray(", "und_ranked und_rank_tray(",
+         "conflicting types for 'und_rank_tray'"),
         # Structs.
         ("fields swapped", "uint32_t number;\n    uint32_t slot;", "uint32_t slot;\n    uint32_t number;",
          'static assertion failed: "und_selected.number: place"'),
@@ -94,7 +102,7 @@ EDITS = {
         ("field of 32 bits", "size_t length;", "uint32_t length;", 'static assertion failed: "und_framed.length: type"'),
         ("field of 64 bits on any machine", "size_t taken;", "uint64_t taken;",
          'static assertion failed: "und_report.taken: type"'),
-        ("longer array", "rank[4]", "rank[5]", 'static assertion failed: "und_ranked.rank: type"'),
+        ("longer array", "rank[UND_RANK_NUMBERS]", "rank[UND_TRAY_ENTRY]", 'static assertion failed: "und_ranked.rank: type"'),
         ("longer header", "bytes[64]", "bytes[65]", 'static assertion failed: "und_image_header.bytes: type"'),
         ("shorter header", "bytes[12]", "bytes[11]", 'static assertion failed: "und_product_header.bytes: type"'),
         ("number after the bytes", "uint32_t number;\n    uint8_t bytes[64];", "uint8_t bytes[64];\n    uint32_t number;",
@@ -110,6 +118,8 @@ EDITS = {
          "the header has .'struct und_more'. that"),
         ("function left out", "und_ranked und_rank(const uint8_t *field, size_t field_len);", "",
          "lacks .'function und_rank'."),
+        ("tray left out", "uint32_t und_rank_tray(const uint8_t *fields, size_t fields_len, uint32_t *ranks, size_t ranks_len);", "",
+         "lacks .'function und_rank_tray'."),
         ("function added", "/* ---- Versions", "void und_more(void);\n/* ---- Versions",
          "the header has .'function und_more'. that"),
         ("reading left out", "und_image und_read_image(const uint8_t *memory, size_t memory_len, uint32_t offset);", "",
@@ -144,6 +154,10 @@ EDITS = {
         ("wrong length of flash", "UND_FLASH_MAX = 4194304", "UND_FLASH_MAX = 4190208", "not so: .*UND_FLASH_MAX"),
         ("wrong sector", "UND_FLASH_SECTOR = 4096", "UND_FLASH_SECTOR = 8192", "not so: .*UND_FLASH_SECTOR"),
         ("wrong length of the work buffer", "UND_WORK_MIN = 64", "UND_WORK_MIN = 65", "not so: .*UND_WORK_MIN"),
+        ("rank of five numbers", "UND_RANK_NUMBERS = 4", "UND_RANK_NUMBERS = 5", 'static assertion failed: "und_ranked.rank: type"'),
+        ("smaller tray", "UND_TRAY_MAX = 1024", "UND_TRAY_MAX = 1023", "not so: .*UND_TRAY_MAX"),
+        ("entry without its number", "UND_RANK_NUMBERS + 1", "UND_RANK_NUMBERS", "not so: .*UND_TRAY_ENTRY"),
+        ("longer entry", "UND_RANK_NUMBERS + 1", "UND_RANK_NUMBERS + 2", "not so: .*UND_TRAY_ENTRY"),
         ("wrong address", "UND_RAM_FIRST = 0x07FC0000", "UND_RAM_FIRST = 0x07FC0001", "not so: .*UND_RAM_FIRST"),
         # Phases.
         ("running without its opcode", "opcode (05), held (the address)", "held (the address)",
@@ -184,6 +198,12 @@ EDITS = {
         ("function that has no name for C", '#[no_mangle]\npub extern "C" fn und_rank', 'pub extern "C" fn und_rank',
          'not every extern "C" has the form'),
         ("function renamed", "fn und_rank(", "fn und_ranks(", "lacks .'function und_ranks'."),
+    ],
+    CAPI_TRAY: [
+        ("room of bytes", "ranks: &mut [u32]", "ranks: &mut [u8]", "conflicting types for 'und_rank_tray'"),
+        ("room that is only read", "ranks: &mut [u32]", "ranks: &[u32]", "conflicting types for 'und_rank_tray'"),
+        ("room of one entry", "ranks: &mut [u32]", "ranks: &mut [u32; 5]", "conflicting types for 'und_rank_tray'"),
+        ("function renamed", "fn und_rank_tray(", "fn und_tray(", "lacks .'function und_tray'."),
     ],
     CAPI_FRAME: [
         ("output that is only read", "und_frame_e(code: &[u8], out: &mut [u8])", "und_frame_e(code: &[u8], out: &[u8])",
@@ -240,6 +260,7 @@ EDITS = {
 # What is wrong, what objcopy is told, what the refusal says.
 ARCHIVES = [
     ("function left out", "--localize-symbol=und_rank", "the archive .*lacks .'function und_rank'."),
+    ("tray left out", "--localize-symbol=und_rank_tray", "the archive .*lacks .'function und_rank_tray'."),
     ("making left out", "--localize-symbol=und_make_image_header",
      "the archive .*lacks .'function und_make_image_header'."),
     ("reading left out", "--localize-symbol=und_read_image", "the archive .*lacks .'function und_read_image'."),
@@ -250,7 +271,7 @@ ARCHIVES = [
 
 
 # The header's names for numbers, reasons, opcodes and the like: each is tried with another value.
-NUMBERED = r"\b(UND_(?!KIND|WANTS|RUNS|RECORD|RULE|LINE|FILE|RAM_|WORK_|FLASH_MAX|FLASH_SECTOR)\w+) = (\w+)"
+NUMBERED = r"\b(UND_(?!KIND|WANTS|RUNS|RECORD|RULE|LINE|FILE|RAM_|WORK_|FLASH_MAX|FLASH_SECTOR|RANK_NUMBERS)\w+) = (\d\w*)"
 
 
 def numbered_edits(root):
