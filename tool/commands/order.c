@@ -1,21 +1,12 @@
 /* undalisho order: the order of two versions. */
 #include "commands.h"
 #include "exits.h"
-#include "memory.h"
+#include "field.h"
 #include "options.h"
 #include "say.h"
-#include "undalisho.h"
 
 #include <stdio.h>
 #include <string.h>
-
-/* A version field with a text in front; a text that is too long makes a field that is too long. */
-static und_ranked rank_of(const char *word, uint8_t *field, size_t *length)
-{
-    *length = strlen(word) > UND_VERSION_FIELD ? strlen(word) : UND_VERSION_FIELD;
-    memcpy(field, word, strlen(word));
-    return und_rank(field, *length);
-}
 
 static void print_order(const char *a, const char *b, int32_t order)
 {
@@ -37,17 +28,16 @@ static void print_order(const char *a, const char *b, int32_t order)
 int run_order(int count, char **words)
 {
     const option options[] = {{"--json", FLAG, &say_json}, {NULL, FLAG, NULL}};
-    uint8_t *fields[2];
-    size_t lengths[2];
+    uint8_t fields[2][UND_VERSION_FIELD];
     if (read_options(count, words, options, 2, 2) < 0)
         return MISUSED;
     for (int i = 0; i < 2; i++) {
-        fields[i] = memory_of(strlen(words[i]) + UND_VERSION_FIELD);
-        uint32_t number = rank_of(words[i], fields[i], &lengths[i]).number;
+        make_field(fields[i], words[i], strlen(words[i]));
+        uint32_t number = und_rank(fields[i], sizeof fields[i]).number;
         if (number != 0)
             return refuse(number, "'%s'", words[i]);
     }
-    und_ordered ordered = und_order(fields[0], lengths[0], fields[1], lengths[1]);
+    und_ordered ordered = und_order(fields[0], sizeof fields[0], fields[1], sizeof fields[1]);
     if (ordered.number != 0)
         return refuse(ordered.number, "'%s', '%s'", words[0], words[1]);
     print_order(words[0], words[1], ordered.order);

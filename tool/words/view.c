@@ -1,6 +1,7 @@
 #include "view.h"
 
 #include "exits.h"
+#include "field.h"
 #include "say.h"
 #include "words.h"
 
@@ -42,16 +43,10 @@ int view_file(flash_view *v, const char *path, unsigned long header)
                   bytes);
 }
 
-static size_t text_length(const uint8_t *field)
-{
-    const void *end = memchr(field, 0, UND_VERSION_FIELD);
-    return end ? (size_t)((const uint8_t *)end - field) : UND_VERSION_FIELD;
-}
-
 /* A version field as people write it; in quotes, with a remark, where its text is malformed. */
 static void add_version(text *t, const uint8_t *field)
 {
-    size_t length = text_length(field);
+    size_t length = field_text_length(field);
     if (und_rank(field, UND_VERSION_FIELD).number == 0) {
         text_add_bytes(t, (const char *)field, length);
         return;
@@ -82,7 +77,7 @@ void add_image_json(text *t, const uint8_t *memory, const und_image *image)
         return;
     const uint8_t *field = memory + image->version_place;
     text_add(t, ",\"id\":%u,\"size\":%u,\"version\":", image->id, image->size);
-    text_add_json(t, (const char *)field, text_length(field));
+    text_add_json(t, (const char *)field, field_text_length(field));
     text_add(t, ",\"version_malformed\":%s", und_rank(field, UND_VERSION_FIELD).number ? "true" : "false");
 }
 
