@@ -1,6 +1,7 @@
 #include "record.h"
 
 #include "exits.h"
+#include "plain_text.h"
 #include "say.h"
 
 #include <stdarg.h>
@@ -21,11 +22,6 @@ int refuse_hex(const hex_text *t, const char *what, ...)
                           "refused: %s, line %zu: %s", t->path, t->line, words.chars);
     text_free(&words);
     return code;
-}
-
-static bool is_blank(uint8_t character)
-{
-    return character == ' ' || (character >= '\t' && character <= '\r');
 }
 
 static content skip_blanks(content c)
@@ -99,15 +95,6 @@ static bool begins_record(content line)
     return line.length > DIGITS && *line.bytes == ':' && count_digits(line.bytes + 1, DIGITS) == DIGITS;
 }
 
-/* Text has no control characters. */
-static bool is_text(content file)
-{
-    size_t at = 0;
-    while (at < file.length && (is_blank(file.bytes[at]) || (file.bytes[at] >= ' ' && file.bytes[at] != 0x7F)))
-        at++;
-    return at == file.length;
-}
-
 static bool has_record(content file)
 {
     hex_text t = {.left = file};
@@ -119,8 +106,7 @@ static bool has_record(content file)
 
 hex_text hex_begin(const char *path, content file)
 {
-    static const uint8_t mark[] = {0xEF, 0xBB, 0xBF};
-    size_t skipped = file.length >= sizeof mark && memcmp(file.bytes, mark, sizeof mark) == 0 ? sizeof mark : 0;
+    size_t skipped = mark_length(file);
     return (hex_text){.path = path, .left = {file.bytes + skipped, file.length - skipped}};
 }
 
