@@ -48,19 +48,32 @@ static int tell(const saying *s)
     return s->code;
 }
 
+static void refuse_args(uint32_t number, const char *next, const char *about, va_list args)
+{
+    text t = {0};
+    text_add(&t, "refused, number %u: %s (", number, meaning_of(number)->what);
+    text_add_args(&t, about, args);
+    text_add(&t, ")");
+    tell(&(saying){REFUSED, number, t.chars, next});
+    text_free(&t);
+}
+
 int refuse(uint32_t number, const char *about, ...)
 {
-    const meaning *m = meaning_of(number);
-    text t = {0};
     va_list args;
-    text_add(&t, "refused, number %u: %s (", number, m->what);
     va_start(args, about);
-    text_add_args(&t, about, args);
+    refuse_args(number, meaning_of(number)->next, about, args);
     va_end(args);
-    text_add(&t, ")");
-    int code = tell(&(saying){REFUSED, number, t.chars, m->next});
-    text_free(&t);
-    return code;
+    return REFUSED;
+}
+
+int refuse_with(uint32_t number, const char *next, const char *about, ...)
+{
+    va_list args;
+    va_start(args, about);
+    refuse_args(number, next, about, args);
+    va_end(args);
+    return REFUSED;
 }
 
 static void tell_args(int code, const char *reason, const char *next, const char *what, va_list args)

@@ -12,6 +12,9 @@
 /* A refusal of the library. `about` says of what. */
 int refuse(uint32_t number, const char *about, ...) LIKE_PRINTF(2, 3);
 
+/* The same, where something else is to be done next than the number says. */
+int refuse_with(uint32_t number, const char *next, const char *about, ...) LIKE_PRINTF(3, 4);
+
 /* An ending with this exit code. */
 int end_with(int code, const char *next, const char *what, ...) LIKE_PRINTF(3, 4);
 
