@@ -29,6 +29,12 @@ def wait_until(condition, what, seconds=SECONDS):
         time.sleep(0.002)
 
 
+def man_section(title):
+    """What the man page says under a heading."""
+    with open(os.path.join(os.path.dirname(__file__), '..', '..', 'tool', 'undalisho.1')) as page:
+        return page.read().partition(f'.SH {title}\n')[2].partition('\n.SH ')[0]
+
+
 def objects(text):
     """One JSON object a line."""
     lines = text.splitlines()

@@ -1,5 +1,4 @@
 """undalisho slot."""
-import os
 
 import bench
 import model
@@ -66,8 +65,7 @@ class Slot(SlotCase):
             self.check(flash_with(good(3), good(4), length=length))
 
     def test_names_in_json_are_in_the_man_page(self):
-        with open(os.path.join(os.path.dirname(__file__), '..', '..', 'tool', 'undalisho.1')) as page:
-            section = page.read().partition('.SH ANSWERS AS JSON')[2].partition('.SH')[0]
+        section = bench.man_section('ANSWERS AS JSON')
         for images in [(good(1), good(2)), (good(1), b''), (b'', b'')]:
             path = self.file('flash.bin', flash_with(*images))
             for command in ('slot', 'map'):
