@@ -15,6 +15,7 @@ static const command commands[] = {
     {"slot", "FLASH [--header OFFSET] [--json]", "names the slot that will start, both images, the next id", run_slot},
     {"map", "FLASH [--header OFFSET] [--json]", "draws the flash: sectors, header, images", run_map},
     {"order", "A B [--json]", "tells which of two versions is higher", run_order},
+    {"tray", "[FILE] [--text] [--json]", "sorts a list of versions, the highest first", run_tray},
     {"offer", "INSTALLED CANDIDATE [-o CODE] [--json]", "takes the image file with the higher version", run_offer},
     {"frame", "--kind p|e CODE -o FRAME [--raw] [--json]", "writes what a host sends to the boot ROM", run_frame},
     {"play",

@@ -8,8 +8,9 @@ class Files(bench.Case):
     def commands(self, path):
         good = self.file('good', b'x')
         out = self.path('out')
-        return [('slot', path), ('map', path), ('offer', path, good), ('offer', good, path), ('play', 'uartboot', '--flash', path),
-                ('frame', '--kind', 'p', path, '-o', out), ('load', '--kind', 'p', '--port', '/dev/null', path)]
+        return [('slot', path), ('map', path), ('tray', path), ('tray', '--text', path), ('offer', path, good), ('offer', good, path),
+                ('play', 'uartboot', '--flash', path), ('frame', '--kind', 'p', path, '-o', out),
+                ('load', '--kind', 'p', '--port', '/dev/null', path)]
 
     def check(self, path, about):
         for words in self.commands(path):

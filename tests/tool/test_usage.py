@@ -5,8 +5,9 @@ import subprocess
 
 import bench
 
-COMMANDS = ['slot', 'map', 'order', 'offer', 'frame', 'play', 'load', 'demo']
-NEEDED = {'slot': 1, 'map': 1, 'order': 2, 'offer': 2, 'frame': 1, 'play': 1, 'load': 1, 'demo': 0}
+COMMANDS = ['slot', 'map', 'order', 'tray', 'offer', 'frame', 'play', 'load', 'demo']
+NEEDED = {'slot': 1, 'map': 1, 'order': 2, 'tray': 1, 'offer': 2, 'frame': 1, 'play': 1, 'load': 1, 'demo': 0}
+OPTIONAL = ['tray']  # its word may be left out
 
 
 class Usage(bench.Case):
@@ -56,7 +57,7 @@ class Usage(bench.Case):
         for command in COMMANDS:
             with self.subTest(command=command):
                 self.misused(command, *['x'] * (NEEDED[command] + 1), about='usage: undalisho ' + command)
-                if NEEDED[command]:
+                if NEEDED[command] and command not in OPTIONAL:
                     self.misused(command, *['x'] * (NEEDED[command] - 1), about='usage: undalisho ' + command)
 
     def test_missing_values(self):

@@ -5,6 +5,7 @@
 int run_slot(int count, char **words);
 int run_map(int count, char **words);
 int run_order(int count, char **words);
+int run_tray(int count, char **words);
 int run_offer(int count, char **words);
 int run_frame(int count, char **words);
 int run_play(int count, char **words);

@@ -49,8 +49,7 @@ void text_add(text *t, const char *format, ...)
     va_end(args);
 }
 
-/* How many bytes the character has that begins a text in UTF-8; 0 where none does. */
-static size_t character_length(const unsigned char *bytes, size_t count)
+size_t text_character(const uint8_t *bytes, size_t count)
 {
     size_t length = bytes[0] < 0x80   ? 1
                     : bytes[0] < 0xC2 ? 0
@@ -73,7 +72,7 @@ void text_add_json(text *t, const char *bytes, size_t count)
     text_add_bytes(t, "\"", 1);
     for (size_t i = 0; i < count;) {
         unsigned char c = (unsigned char)bytes[i];
-        size_t length = character_length((const unsigned char *)bytes + i, count - i);
+        size_t length = text_character((const uint8_t *)bytes + i, count - i);
         bool control = c < 0x20 || c == 0x7F || (length == 2 && c == 0xC2 && (unsigned char)bytes[i + 1] < 0xA0);
         if (c == '"' || c == '\\')
             text_add(t, "\\%c", c);

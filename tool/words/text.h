@@ -24,6 +24,9 @@ void text_add_bytes(text *t, const char *bytes, size_t count);
 /* A string in quotes as JSON has it; control characters, and bytes that are not UTF-8 text, are escaped. */
 void text_add_json(text *t, const char *bytes, size_t count);
 
+/* How many bytes the character has that begins a text in UTF-8; 0 where none does. */
+size_t text_character(const uint8_t *bytes, size_t count);
+
 /* Bytes in hexadecimal, with `between` between them. */
 void text_add_hex(text *t, const uint8_t *bytes, size_t count, const char *between);
 

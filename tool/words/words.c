@@ -44,6 +44,10 @@ static const meaning numbers[] = {
      "write one to four numbers from 0 to 65535 with dots between them and no leading zero, in at most 16 characters"},
     {UND_INSTALLED_NOT_VALID, "the installed file is not a valid image", "take another copy of the installed image"},
     {UND_CANDIDATE_NOT_VALID, "the candidate is not a valid image", "take another copy of the candidate"},
+    {UND_BAD_TRAY, "a tray has at most 1024 versions, in whole fields of 16 bytes",
+     "split a longer list; of a file with fields, see that it is the one that was meant, and whole"},
+    {UND_SHORT_RANKS, "the room for the ranks is too short",
+     "report this: the program has lent too little room for them"},
     {UND_BAD_COMMAND, "uartboot has no such command, or none with a payload of this length",
      "check opcode and payload; a payload has at most 65535 bytes"},
     {UND_SHORT_ANSWER, "the room for the answer is too short", "report this: the program has lent too little room"},
@@ -58,7 +62,8 @@ static const meaning numbers[] = {
 
 /* The limits that are spelled out above. */
 typedef char limits_are_those[UND_WORK_MIN == 64 && UND_WORK_MAX == 65535 && UND_RAM_MAX == 131072 &&
-                                      UND_FLASH_SECTOR == 4096 && UND_FLASH_MAX == 4194304 && UND_VERSION_FIELD == 16
+                                      UND_FLASH_SECTOR == 4096 && UND_FLASH_MAX == 4194304 && UND_VERSION_FIELD == 16 &&
+                                      UND_TRAY_MAX == 1024
                                   ? 1
                                   : -1];
 
