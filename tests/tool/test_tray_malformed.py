@@ -72,14 +72,14 @@ KEPT = 40
 class Faults(TrayCase):
     def said(self, *words):
         """Number, what is shown, and what is said of each, in text and as JSON."""
-        done = self.tool('tray', *words, code=bench.REFUSED)
-        self.assertIn('number 61:', done.stderr)
+        done = self.tool('tray', *words)
+        self.assertEqual(done.stderr, '')
         self.assertFalse({chr(c) for c in (*range(10), *range(11, 32), 127)} & set(done.stdout), done.stdout)
         malformed = self.read_table(done.stdout)[1]
-        answer, = self.json('tray', *words, code=bench.REFUSED)
+        answer, = self.json('tray', *words)
         self.assertEqual([row['words'] for row in answer['malformed']], [words for _, _, words in malformed])
         self.assertEqual([row['number'] for row in answer['malformed']], [61] * len(malformed))
-        self.assertEqual((answer['number'], answer['exit']), (61, bench.REFUSED))
+        self.assertEqual(answer['number'], 0)
         return malformed, answer['malformed']
 
     def test_lines(self):
@@ -115,12 +115,10 @@ class Faults(TrayCase):
         self.assertLess(len(said), MOST)
 
     def test_counts(self):
-        for content, head, about in [(b'x\n', '1 version, malformed', '1 of 1'), (b'x\ny\n', '2 versions, all malformed', '2 of 2'),
-                                     (b'x\n1\ny\n', '3 versions, 2 of them malformed', '2 of 3')]:
+        for content, head in [(b'x\n', '1 version, malformed'), (b'x\ny\n', '2 versions, all malformed'),
+                              (b'x\n1\ny\n', '3 versions, 2 of them malformed')]:
             path = self.file('list', content)
-            done = self.tool('tray', '--text', path, code=bench.REFUSED)
-            self.assertEqual(done.stdout.partition('\n')[0], f'{path}: {head}')
-            self.assertIn(f'({path}: {about} versions)', done.stderr)
+            self.assertEqual(self.tool('tray', '--text', path).stdout.partition('\n')[0], f'{path}: {head}')
 
 
 class OtherForms(TrayCase):
@@ -129,13 +127,14 @@ class OtherForms(TrayCase):
     FIELDS = 'this does not look like text: if it has fields, leave out --text'
     INPUT = 'standard input is read as text: if it has fields, name a file with them'
     UTF16 = 'this looks like UTF-16 text: save it as UTF-8, and read it with --text'
-    USUAL = {61: 'write one to four numbers', 64: 'split a longer list'}
+    USUAL = {0: 'write one to four numbers', 64: 'split a longer list'}
 
     def check_next(self, number, following, content, *words):
-        """The number, and what follows 'next:', in text and as JSON; None is what the number's words always are."""
-        path = self.file('list', content)
-        said = self.refused(number, 'tray', *words, path)
-        answer = self.json('tray', *words, path, code=bench.REFUSED)[0]
+        """The list's number, and what follows 'next:', in text and as JSON; None is what is said where nothing else is known."""
+        path, code = self.file('list', content), bench.REFUSED if number else bench.DONE
+        done = self.tool('tray', *words, path, code=code)
+        said = done.stderr if number else done.stdout
+        answer, = self.json('tray', *words, path, code=code)
         self.assertEqual((answer['number'], answer['next']), (number, said.rpartition('  next: ')[2].strip()))
         if following:
             self.assertEqual(answer['next'], following)
@@ -143,25 +142,26 @@ class OtherForms(TrayCase):
             self.assertIn(self.USUAL[number], answer['next'])
 
     def test_text_that_is_read_as_fields(self):
-        for number, content in [(64, b'1.9\n2.0\n'), (61, b'1.9\r\n2.0\r\n1.10\r\n'), (61, b'1.9\n2.0\n' * 4), (64, b'1.9\n' * 5000),
-                                (64, b'\xEF\xBB\xBF1.9\n'), (64, b'2.0'), (61, '\u00E9\n'.encode() * 16)]:
+        for number, content in [(64, b'1.9\n2.0\n'), (0, b'1.9\r\n2.0\r\n1.10\r\n'), (0, b'1.9\n2.0\n' * 4), (64, b'1.9\n' * 5000),
+                                (64, b'\xEF\xBB\xBF1.9\n'), (64, b'2.0'), (0, '\u00E9\n'.encode() * 16)]:
             self.check_next(number, self.TEXT, content)
 
     def test_what_is_no_text(self):
-        for number, content in [(61, b'\xFF' * 64), (64, b'\xFF' * 65), (61, field(b'x') * 3), (64, b'\0' * 17), (61, bytes(range(1, 33))),
-                                (61, field(b'1') + b'1.9\n' * 4)]:
+        for number, content in [(0, b'\xFF' * 64), (64, b'\xFF' * 65), (0, field(b'x') * 3), (64, b'\0' * 17), (0, bytes(range(1, 33))),
+                                (0, field(b'1') + b'1.9\n' * 4)]:
             self.check_next(number, None, content)
 
     def test_fields_that_are_read_as_text(self):
-        for number, content in [(61, field(b'1.9') * 3), (61, b'\0'), (64, b'\0\n' * 5000)]:
+        for number, content in [(0, field(b'1.9') * 3), (0, b'\0'), (64, b'\0\n' * 5000)]:
             self.check_next(number, self.FIELDS, content, '--text')
-            self.assertIn(self.INPUT, self.from_input(content, code=bench.REFUSED).stderr)
-        for number, content in [(61, b'x\n'), (61, b'x\0\n1\n'), (64, b'1\n' * 5000)]:
+            done = self.from_input(content, code=bench.REFUSED if number else bench.DONE)
+            self.assertIn(self.INPUT, done.stderr if number else done.stdout)
+        for number, content in [(0, b'x\n'), (0, b'x\0\n1\n'), (64, b'1\n' * 5000)]:
             self.check_next(number, None, content, '--text')
 
     def test_utf16(self):
         for coding in ('utf-16-le', 'utf-16-be'):
-            for number, words in (61, ['--text']), (64, []):
+            for number, words in (0, ['--text']), (64, []):
                 self.check_next(number, self.UTF16, '\uFEFF1.9\r\n2.0\r\n'.encode(coding), *words)
 
 

@@ -7,6 +7,7 @@ import model
 MOST = 1024
 ROW = re.compile(r'^ *(\d+)  (\S+) +(\d+)(?:  0x([0-9A-F]{5}))?(?:  same version as (?:line|field) (\d+))?$')
 MALFORMED = re.compile(r'^  (?:line|field) (\d+)(?: at 0x([0-9A-F]{5}))?, (".*"(?: and \d+ more)?): (\S.*)$')
+NEXT = re.compile(r'^  next: (\S.*)\n\Z', re.MULTILINE)
 
 
 def field(version):
@@ -46,7 +47,8 @@ class TrayCase(bench.Case):
             name = 'line' if offset is None else 'field'
             rows.append({'place': int(place), 'version': version, name: int(number), 'equal': int(equal) if equal else None})
             self.check_offset(offset, number)
-        malformed = [self.matched(MALFORMED, line) for line in below.splitlines()]
+        malformed = [self.matched(MALFORMED, line) for line in below.splitlines()[:-1]]
+        self.assertEqual(bool(below), bool(NEXT.search(below)), below)
         for number, offset, _, _ in malformed:
             self.check_offset(offset, number)
         return rows, [(int(number), shown, words) for number, _, shown, words in malformed]
@@ -63,12 +65,11 @@ class TrayCase(bench.Case):
         """Table and JSON are those of the model."""
         rows = expected(versions, number)
         bad = [number(i) for i, version in enumerate(versions) if rank_of(version) is None]
-        code = bench.REFUSED if bad else bench.DONE
-        shown, malformed = self.read_table(self.tool('tray', *words, code=code).stdout)
+        shown, malformed = self.read_table(self.tool('tray', *words).stdout)
         self.assertEqual([(row['place'], row['version'], row[name], row['equal']) for row in shown], rows)
         self.assertEqual([each[0] for each in malformed], bad)
-        answer, = self.json('tray', *words, code=code)
-        self.assertEqual((answer['number'], answer['count']), (61 if bad else 0, len(versions)))
+        answer, = self.json('tray', *words)
+        self.assertEqual((answer['number'], answer['count'], 'next' in answer), (0, len(versions), bool(bad)))
         self.assertEqual([(row['place'], row['version'], row[name]) for row in answer['versions']], [row[:3] for row in rows])
         self.assertEqual([row['rank'] for row in answer['versions']], [rank_of(row[1].encode()) for row in rows])
         self.assertEqual([(row[name], row['number'], row['words']) for row in answer['malformed']],
@@ -83,6 +84,5 @@ class TrayCase(bench.Case):
         place = [i for i, version in enumerate(versions, 1) if version]
         text = self.file('lines', b''.join(version + b'\n' for version in versions))
         self.check(lines, 'line', '--text', text, number=place.__getitem__)
-        code = bench.REFUSED if None in map(rank_of, lines) else bench.DONE
-        said = self.tool('tray', '--text', text, code=code).stdout
-        self.assertEqual(self.from_input(self.content(text), code=code).stdout, said.replace(text, 'standard input'))
+        said = self.tool('tray', '--text', text).stdout
+        self.assertEqual(self.from_input(self.content(text)).stdout, said.replace(text, 'standard input'))

@@ -8,6 +8,7 @@
 #include "ranking.h"
 #include "say.h"
 #include "table.h"
+#include "words.h"
 
 static int refuse_tray(const tray *t, uint32_t number)
 {
@@ -21,21 +22,13 @@ static int refuse_tray(const tray *t, uint32_t number)
     return refuse_with(number, next, "%s has %zu bytes: of the last field only %zu", t->name, t->fields.length, rest);
 }
 
-/* All is shown, also where it is refused since some are malformed. */
-static int show(const tray *t, const ranking *r)
+/* What to do about malformed versions, if there are any. */
+static const char *advice(const tray *t, const ranking *r)
 {
-    bool refused = r->malformed_count > 0;
-    meaning m = *meaning_of(UND_MALFORMED_VERSION);
+    if (r->malformed_count == 0)
+        return NULL;
     const char *next = r->count == 0 ? other_form(t) : NULL;
-    m.next = next ? next : m.next;
-    if (say_json)
-        print_tray_json(t, r, refused ? &m : NULL);
-    else
-        print_tray(t, r);
-    if (!refused)
-        return DONE;
-    say_json = false;
-    return refuse_with(m.number, m.next, "%s: %zu of %zu versions", t->name, r->malformed_count, t->count);
+    return next ? next : meaning_of(UND_MALFORMED_VERSION)->next;
 }
 
 int run_tray(int count, char **words)
@@ -50,5 +43,8 @@ int run_tray(int count, char **words)
     if (code != DONE)
         return code;
     ranking r = rank_tray(&t);
-    return r.number == 0 ? show(&t, &r) : refuse_tray(&t, r.number);
+    if (r.number != 0)
+        return refuse_tray(&t, r.number);
+    (say_json ? print_tray_json : print_tray)(&t, &r, advice(&t, &r));
+    return DONE;
 }

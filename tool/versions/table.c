@@ -1,7 +1,5 @@
 #include "table.h"
 
-#include "exits.h"
-
 #include <stdio.h>
 #include <string.h>
 
@@ -78,11 +76,13 @@ static void print_malformed(const tray *t, const ranking *r)
     }
 }
 
-void print_tray(const tray *t, const ranking *r)
+void print_tray(const tray *t, const ranking *r, const char *next)
 {
     print_head(t, r);
     print_rows(t, r);
     print_malformed(t, r);
+    if (next)
+        printf("  next: %s\n", next);
 }
 
 /* {"line":7,"version":"1.9" or {"field":7,"offset":96,"version":"1.9" */
@@ -118,15 +118,12 @@ static void add_malformed_json(text *j, const tray *t, const ranking *r, size_t 
     text_free(&words);
 }
 
-void print_tray_json(const tray *t, const ranking *r, const meaning *refused)
+void print_tray_json(const tray *t, const ranking *r, const char *next)
 {
     text j = {0};
     text_add(&j, "{\"file\":");
     text_add_json(&j, t->path, strlen(t->path));
-    text_add(&j, ",\"count\":%zu,\"number\":%u", t->count, refused ? refused->number : 0);
-    if (refused)
-        text_add_meaning(&j, refused, REFUSED);
-    text_add(&j, ",\"versions\":[");
+    text_add(&j, ",\"count\":%zu,\"number\":%u,\"versions\":[", t->count, r->number);
     for (size_t i = 0; i < r->count; i++) {
         text_add(&j, "%s", i ? "," : "");
         add_ranked_json(&j, t, &r->sorted[i]);
@@ -136,7 +133,12 @@ void print_tray_json(const tray *t, const ranking *r, const meaning *refused)
         text_add(&j, "%s", i ? "," : "");
         add_malformed_json(&j, t, r, r->malformed[i]);
     }
-    text_add(&j, "]}\n");
+    text_add(&j, "]");
+    if (next) {
+        text_add(&j, ",\"next\":");
+        text_add_json(&j, next, strlen(next));
+    }
+    text_add(&j, "}\n");
     fputs(j.chars, stdout);
     text_free(&j);
 }

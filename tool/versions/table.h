@@ -3,11 +3,11 @@
 #define TABLE_H
 
 #include "ranking.h"
-#include "words.h"
 
-void print_tray(const tray *t, const ranking *r);
+/* `next` is what to do about malformed versions, NULL where there are none. */
+void print_tray(const tray *t, const ranking *r, const char *next);
 
-/* The same as a JSON object. `refused` is what is said where some are malformed, else NULL. */
-void print_tray_json(const tray *t, const ranking *r, const meaning *refused);
+/* The same as a JSON object. */
+void print_tray_json(const tray *t, const ranking *r, const char *next);
 
 #endif
