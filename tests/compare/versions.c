@@ -8,6 +8,8 @@
 
 #include <string.h>
 
+_Static_assert(sizeof(und_ranked) == sizeof(model_ranked), "a rank of the model has as many numbers");
+
 /* The library's lent field, and the same bytes for the model. */
 typedef struct {
     shelf held;
@@ -22,7 +24,7 @@ static void same_rank(trial *t, const field *f)
     model_ranked want = model_rank(f->kept, f->length);
     seen(SEEN_RANK_NUMBER, want.number);
     same_number(t, "rank's number", got.number, want.number);
-    for (int k = 0; k < 4; k++)
+    for (int k = 0; k < RANK_NUMBERS; k++)
         same_number(t, "rank", got.rank[k], want.rank[k]);
 }
 

@@ -12,8 +12,10 @@ uint16_t model_crc16(const uint8_t *bytes, size_t count);
 uint32_t model_crc32(const uint8_t *bytes, size_t count);
 
 /* Versions. */
+enum { VERSION_FIELD = 16, RANK_NUMBERS = 4 };
+
 typedef struct {
-    uint32_t number, rank[4];
+    uint32_t number, rank[RANK_NUMBERS];
 } model_ranked;
 
 typedef struct {
@@ -25,7 +27,7 @@ model_ranked model_rank(const uint8_t *field, size_t length);
 model_ordered model_order(const uint8_t *a, size_t a_length, const uint8_t *b, size_t b_length);
 
 /* Images, the slot that will start, offers. */
-enum { PRODUCT_HEADER = 12, IMAGE_HEADER = 64, VERSION_FIELD = 16, MOST_CODE = 131072 };
+enum { PRODUCT_HEADER = 12, IMAGE_HEADER = 64, MOST_CODE = 131072 };
 
 typedef struct {
     uint32_t number, slot;

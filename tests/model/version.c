@@ -1,9 +1,9 @@
-/* Version text: one to four decimal numbers with dots between, padded with 00 to 16 bytes. */
+/* Version text: a decimal number, or up to as many as a rank has with dots between, padded with 00 to 16 bytes. */
 #include "model.h"
 
 #include <string.h>
 
-static const model_ranked refused = {61, {0, 0, 0, 0}};
+static const model_ranked refused = {61, {0}};
 
 /* The number that a piece of text says, or -1. */
 static long number_of(const char *text, size_t length)
@@ -28,9 +28,9 @@ model_ranked model_rank(const uint8_t *field, size_t length)
         if (text[i] != 0)
             return refused;
 
-    model_ranked given = {0, {0, 0, 0, 0}};
+    model_ranked given = {0, {0}};
     const char *piece = text;
-    for (int k = 0; k < 4; k++) {
+    for (int k = 0; k < RANK_NUMBERS; k++) {
         size_t end = strcspn(piece, ".");
         long value = number_of(piece, end);
         if (value < 0)
@@ -48,7 +48,7 @@ model_ordered model_order(const uint8_t *a, size_t a_length, const uint8_t *b, s
     model_ranked left = model_rank(a, a_length), right = model_rank(b, b_length);
     if (left.number || right.number)
         return (model_ordered){61, 0};
-    for (int k = 0; k < 4; k++)
+    for (int k = 0; k < RANK_NUMBERS; k++)
         if (left.rank[k] != right.rank[k])
             return (model_ordered){0, left.rank[k] < right.rank[k] ? -1 : 1};
     return (model_ordered){0, 0};
