@@ -12,7 +12,12 @@ uint16_t model_crc16(const uint8_t *bytes, size_t count);
 uint32_t model_crc32(const uint8_t *bytes, size_t count);
 
 /* Versions. */
-enum { VERSION_FIELD = 16, RANK_NUMBERS = 4 };
+enum {
+    VERSION_FIELD = 16,
+    RANK_NUMBERS = 4,
+    TRAY_ENTRY = RANK_NUMBERS + 1, /* the rank, and then the number */
+    MOST_TRAY = 1024               /* fields */
+};
 
 typedef struct {
     uint32_t number, rank[RANK_NUMBERS];
@@ -25,6 +30,8 @@ typedef struct {
 
 model_ranked model_rank(const uint8_t *field, size_t length);
 model_ordered model_order(const uint8_t *a, size_t a_length, const uint8_t *b, size_t b_length);
+/* The room counts numbers. */
+uint32_t model_rank_tray(const uint8_t *fields, size_t length, uint32_t *ranks, size_t room);
 
 /* Images, the slot that will start, offers. */
 enum { PRODUCT_HEADER = 12, IMAGE_HEADER = 64, MOST_CODE = 131072 };
