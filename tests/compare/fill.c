@@ -34,3 +34,13 @@ uint64_t near_edges(choices *c, const uint64_t *edges, size_t count)
     default: return edge + pick(c, 64) - 32;
     }
 }
+
+size_t room_near(choices *c, size_t length)
+{
+    switch (pick(c, 4)) {
+    case 0: return length;
+    case 1: return length + pick(c, 16);
+    case 2: return length == 0 ? 0 : length - 1;
+    default: return pick(c, (uint32_t)length + 1);
+    }
+}

@@ -21,16 +21,6 @@ static size_t code_length(trial *t)
     return length > LONGEST_CODE ? 0 : length;
 }
 
-static size_t room_for(trial *t, size_t frame)
-{
-    switch (pick(t->c, 4)) {
-    case 0: return frame;
-    case 1: return frame + pick(t->c, 16);
-    case 2: return frame == 0 ? 0 : frame - 1;
-    default: return pick(t->c, (uint32_t)frame + 1);
-    }
-}
-
 /* The frame's receiver, with RAM enough, ends with the code in RAM, running. */
 static void round_trip(trial *t, uint32_t kind, const uint8_t *frame, size_t frame_length, const uint8_t *code,
                        size_t length)
@@ -63,7 +53,7 @@ void frame_case(trial *t)
     }
     uint32_t kind = pick(t->c, 2);
     size_t length = code_length(t), frame = length + (length > 65535 && kind == KIND_E ? 6 : 4),
-           room = room_for(t, frame);
+           room = room_near(t->c, frame);
     bool at_end = !once_in(t->c, 3);
     uint8_t *code = shelf_lend(&code_shelf, length, at_end), *out = shelf_lend(&out_shelf, room, at_end);
     fill(t->c, kept, length);
