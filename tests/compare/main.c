@@ -16,6 +16,7 @@
 
 static const case_kind kinds[] = {
     {"version", 8, version_case},
+    {"tray", 4, tray_case},
     {"select", 6, select_case},
     {"offer", 4, offer_case},
     {"command", 4, command_case},

@@ -10,7 +10,12 @@ typedef enum {
     /* numbers, by what gave them */
     SEEN_RANK_NUMBER, SEEN_ORDER_NUMBER, SEEN_SELECT_NUMBER, SEEN_OFFER_NUMBER,
     SEEN_FRAME_P_NUMBER, SEEN_FRAME_E_NUMBER, SEEN_ROM_NUMBER, SEEN_UARTBOOT_NUMBER,
-    SEEN_PRODUCT_NUMBER, SEEN_COMMAND_NUMBER, SEEN_IMAGE_HEADER_NUMBER, SEEN_HOST_NUMBER,
+    SEEN_PRODUCT_NUMBER, SEEN_COMMAND_NUMBER, SEEN_IMAGE_HEADER_NUMBER, SEEN_HOST_NUMBER, SEEN_TRAY_NUMBER,
+    /* trays by their list (see below): accepted, refused with each number, with 64 where the room is short too */
+    SEEN_TRAY_0, SEEN_TRAY_64, SEEN_TRAY_65, SEEN_TRAY_64_AND_65,
+    /* a good list's room (see below); pointers that are NULL, 1 to no fields, 2 to no room, 3 both; entries by their
+       number; the only malformed field of three or more, by its place (see below) */
+    SEEN_TRAY_ROOM, SEEN_TRAY_NULL, SEEN_TRAY_ENTRY, SEEN_TRAY_MALFORMED,
     /* rules that images broke, and opcodes whose payload was read */
     SEEN_RULE, SEEN_COMMAND_OPCODE,
     /* what sessions and hosts reached from a fresh record */
@@ -90,6 +95,26 @@ typedef enum {
     SEENS
 } seen_what;
 /* clang-format on */
+
+/* A tray's list: no, one or the most fields, one more than the most; a byte less or more than one field; the most
+   fields and a part of another; any other, whole or not. */
+typedef enum {
+    LIST_NONE,
+    LIST_ONE,
+    LIST_MOST,
+    LIST_ABOVE,
+    LIST_SHORT,
+    LIST_LONG,
+    LIST_MOST_AND_PART,
+    LIST_WHOLE,
+    LIST_PART
+} seen_list;
+
+/* A tray's room: as long as the entries, longer, one number short, less than half of it, any other that is short. */
+typedef enum { ROOM_EXACT, ROOM_LONGER, ROOM_ONE_SHORT, ROOM_FAR_SHORT, ROOM_SHORT } seen_room;
+
+/* Where a tray's field lies. */
+typedef enum { FIELD_FIRST, FIELD_BETWEEN, FIELD_LAST } seen_field;
 
 /* Where an address lies: RAM's first and last byte, the ones beside them, the last ones of 32 bits, any other. */
 typedef enum {

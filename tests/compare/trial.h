@@ -19,6 +19,7 @@ typedef struct {
 
 /* Each file of cases has one of these. */
 void version_case(trial *t);
+void tray_case(trial *t);
 void select_case(trial *t);
 void offer_case(trial *t);
 void command_case(trial *t);
