@@ -5,7 +5,7 @@
 
 #include <string.h>
 
-static void field_of(const char *text, uint8_t field[VERSION_FIELD])
+void field_of(const char *text, uint8_t field[VERSION_FIELD])
 {
     memset(field, 0, VERSION_FIELD);
     memcpy(field, text, strlen(text));
@@ -63,6 +63,7 @@ static void checksum_figures(trial *t)
 void run_figures(trial *t)
 {
     version_figures(t);
+    tray_figures(t);
     slot_figures(t);
     checksum_figures(t);
     header_figures(t);

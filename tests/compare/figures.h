@@ -6,7 +6,8 @@
 
 void run_figures(trial *t);
 
-/* Those of slots, of sessions, and of hosts, a file for each. */
+/* Those of trays, of slots, of sessions, and of hosts, a file for each. */
+void tray_figures(trial *t);
 void slot_figures(trial *t);
 void exchange_figures(trial *t);
 void refusal_figures(trial *t);
@@ -17,6 +18,9 @@ void command_figures(trial *t);
 void range_figures(trial *t);
 void talk_figures(trial *t);
 void host_call_figures(trial *t);
+
+/* A version field with a text. */
+void field_of(const char *text, uint8_t field[VERSION_FIELD]);
 
 /* A fresh session. RAM and work buffer hold 00, the flash F0. */
 setting setting_of(uint32_t kind, size_t ram_length, size_t flash_length, size_t work_length);
