@@ -24,21 +24,27 @@ static int all_zero(const uint8_t *field, size_t at)
     return at == 16;
 }
 
-und_ranked plain_rank(const uint8_t *field, size_t field_len)
+/* Reads a field's numbers into a rank of zeros. Gives 0, or 61 where the text is malformed. */
+static uint32_t read_rank(const uint8_t *field, uint32_t *rank)
 {
-    const und_ranked refused = {61, {0, 0, 0, 0}};
-    und_ranked ranked = {0, {0, 0, 0, 0}};
     size_t at = 0;
-    if (field_len != 16)
-        return refused;
-    for (int place = 0; place < 4; place++) {
+    for (int place = 0; place < UND_RANK_NUMBERS; place++) {
         int32_t value = decimal_at(field, &at);
         if (value < 0)
-            return refused;
-        ranked.rank[place] = (uint32_t)value;
+            return UND_MALFORMED_VERSION;
+        rank[place] = (uint32_t)value;
         if (at == 16 || field[at] != '.')
-            return all_zero(field, at) ? ranked : refused;
+            return all_zero(field, at) ? 0 : UND_MALFORMED_VERSION;
         at++;
     }
-    return refused;
+    return UND_MALFORMED_VERSION;
+}
+
+und_ranked plain_rank(const uint8_t *field, size_t field_len)
+{
+    const und_ranked refused = {UND_MALFORMED_VERSION, {0}};
+    und_ranked ranked = {0, {0}};
+    if (field_len != 16 || read_rank(field, ranked.rank) != 0)
+        return refused;
+    return ranked;
 }

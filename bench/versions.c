@@ -1,4 +1,4 @@
-/* Ranking version fields: one to four numbers each, one field of sixteen malformed. */
+/* Ranking version fields: one to all of a rank's numbers each, one field of sixteen malformed. */
 #include "plain.h"
 #include "subjects.h"
 
@@ -13,13 +13,13 @@ static size_t count;
 
 static void put_version(uint8_t *field)
 {
-    char text[32] = "";
+    char text[4 * UND_RANK_NUMBERS + 1] = "";
     int length = 0;
-    for (uint32_t left = some_number() % 4 + 1; left > 0; left--)
+    for (uint32_t left = some_number() % UND_RANK_NUMBERS + 1; left > 0; left--)
         length +=
             snprintf(text + length, sizeof text - (size_t)length, "%u%s", some_number() % 1000, left > 1 ? "." : "");
     memset(field, 0, FIELD);
-    memcpy(field, text, (size_t)length);
+    memcpy(field, text, (size_t)length < FIELD ? (size_t)length : FIELD);
     if (some_number() % 16 == 0)
         field[some_number() % FIELD] = 'x';
 }
