@@ -28,12 +28,13 @@ static const subject subjects[] = {
     {"Host Write", 65535, WITH_TABLE, 0, WRITE, HOST},
     {"Host Read", 65535, WITH_TABLE, 0, READ, HOST},
     {"Select of two images", 131072, WITH_TABLE | WITH_ZLIB, 0, 0, slot_prepare, slot_library, slot_plain, slot_same},
-    {"Rank of versions", 1024, 0, 0, 0, version_prepare, version_library, version_plain, version_same},
+    {"Rank of versions", UND_TRAY_MAX, 0, 0, 0, version_prepare, version_library, version_plain, version_same},
+    {"Rank of a tray", UND_TRAY_MAX, WITH_CALLS, 0, 0, version_prepare, tray_library, tray_plain, tray_same},
 };
 
 enum { SUBJECTS = sizeof subjects / sizeof subjects[0] };
 
-static const char *const names[WORKERS] = {"library", "plain C", "table", "zlib", "byte loop"};
+static const char *const names[WORKERS] = {"library", "plain C", "table", "zlib", "byte loop", "single calls"};
 
 static int all_agree(void)
 {

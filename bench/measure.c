@@ -30,6 +30,8 @@ static void equip(worker w)
         plain.crc32 = plain_crc32_zlib;
     if (w == LOOP)
         plain.copy = plain_copy_by_loop;
+    if (w == CALLS)
+        plain.rank_tray = plain_rank_tray_by_calls;
 }
 
 static double timed(const subject *s, worker w)

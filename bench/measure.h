@@ -5,10 +5,10 @@
 #include <stddef.h>
 
 /* Who works: the library, plain C, and plain C with other means, which is printed beside it. */
-typedef enum { LIBRARY, PLAIN, TABLE, ZLIB, LOOP, WORKERS } worker;
+typedef enum { LIBRARY, PLAIN, TABLE, ZLIB, LOOP, CALLS, WORKERS } worker;
 
 /* What the bits of `beside` mean. */
-enum { WITH_TABLE = 1 << TABLE, WITH_ZLIB = 1 << ZLIB, WITH_LOOP = 1 << LOOP };
+enum { WITH_TABLE = 1 << TABLE, WITH_ZLIB = 1 << ZLIB, WITH_LOOP = 1 << LOOP, WITH_CALLS = 1 << CALLS };
 
 typedef struct subject {
     const char *name;

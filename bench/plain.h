@@ -16,12 +16,13 @@ enum { KIND, PHASE, OPCODE, LENGTH, PLACE, HELD, REASON, CRC };
 /* The bytes of the line. */
 enum { SOH = 0x01, STX = 0x02, ETX = 0x03, ACK = 0x06, NAK = 0x15 };
 
-/* What the routines below copy and sum with: memcpy and the bitwise CRCs, unless the bench puts others in their
-   place. */
+/* What copies, sums and ranks trays: memcpy, the bitwise CRCs and plain_rank_tray, unless the bench puts others in
+   their place. */
 typedef struct {
     void *(*copy)(void *to, const void *from, size_t count);
     uint16_t (*crc16)(const uint8_t *bytes, size_t count);
     uint32_t (*crc32)(const uint8_t *bytes, size_t count);
+    uint32_t (*rank_tray)(const uint8_t *fields, size_t fields_len, uint32_t *ranks, size_t ranks_len);
 } plain_means;
 
 extern plain_means plain;
@@ -36,6 +37,9 @@ uint32_t plain_crc32_zlib(const uint8_t *bytes, size_t count);
 void *plain_copy_by_loop(void *to, const void *from, size_t count);
 
 und_ranked plain_rank(const uint8_t *field, size_t field_len);
+uint32_t plain_rank_tray(const uint8_t *fields, size_t fields_len, uint32_t *ranks, size_t ranks_len);
+/* The same with the library's und_rank for each field, as programs do that have no und_rank_tray. */
+uint32_t plain_rank_tray_by_calls(const uint8_t *fields, size_t fields_len, uint32_t *ranks, size_t ranks_len);
 und_selected plain_select(const uint8_t *flash, size_t flash_len, uint32_t header_offset);
 void plain_rom_fresh(uint32_t kind, uint32_t record[8]);
 und_report plain_rom_call(uint32_t record[8], const uint8_t *input, size_t input_len, uint8_t *reply, size_t reply_len,

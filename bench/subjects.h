@@ -30,6 +30,11 @@ void version_library(const subject *s);
 void version_plain(const subject *s);
 int version_same(void);
 
+/* Of the versions that version_prepare has made. */
+void tray_library(const subject *s);
+void tray_plain(const subject *s);
+int tray_same(void);
+
 void session_prepare(const subject *s, size_t size);
 void session_library(const subject *s);
 void session_plain(const subject *s);

@@ -1,14 +1,21 @@
-/* Ranking version fields: one to all of a rank's numbers each, one field of sixteen malformed. */
+/* Ranking version fields, one by one and as a tray: each has up to all of a rank's numbers, one of sixteen is
+   malformed. */
 #include "plain.h"
 #include "subjects.h"
 
 #include <stdio.h>
 #include <string.h>
 
-enum { MOST = 1024, FIELD = 16 };
+enum { MOST = UND_TRAY_MAX, FIELD = UND_VERSION_FIELD };
+
+/* What a tray gives. */
+typedef struct {
+    uint32_t number, entries[MOST][UND_TRAY_ENTRY];
+} ranked_tray;
 
 static uint8_t fields[MOST][FIELD];
 static und_ranked ours[MOST], theirs[MOST];
+static ranked_tray our_tray, their_tray;
 static size_t count;
 
 static void put_version(uint8_t *field)
@@ -49,4 +56,22 @@ void version_plain(const subject *s)
 int version_same(void)
 {
     return memcmp(ours, theirs, count * sizeof ours[0]) == 0;
+}
+
+void tray_library(const subject *s)
+{
+    (void)s;
+    our_tray.number = und_rank_tray(fields[0], count * FIELD, our_tray.entries[0], count * UND_TRAY_ENTRY);
+}
+
+void tray_plain(const subject *s)
+{
+    (void)s;
+    their_tray.number = plain.rank_tray(fields[0], count * FIELD, their_tray.entries[0], count * UND_TRAY_ENTRY);
+}
+
+int tray_same(void)
+{
+    return our_tray.number == 0 && their_tray.number == 0 &&
+           memcmp(our_tray.entries, their_tray.entries, count * sizeof our_tray.entries[0]) == 0;
 }
