@@ -13,6 +13,9 @@ enum { KIND, PHASE, OPCODE, LENGTH, PLACE, HELD, REASON, CRC };
 /* The address of RAM's first byte. */
 #define RAM_BASE 0x07FC0000u
 
+/* The most numbers of a version's text. */
+enum { TEXT_NUMBERS = 4 };
+
 /* The bytes of the line. */
 enum { SOH = 0x01, STX = 0x02, ETX = 0x03, ACK = 0x06, NAK = 0x15 };
 

@@ -30,7 +30,7 @@ static int all_zero(const uint8_t *field, size_t at)
 static uint32_t read_rank(const uint8_t *field, uint32_t *rank)
 {
     size_t at = 0;
-    for (int place = 0; place < UND_RANK_NUMBERS; place++) {
+    for (int place = 0; place < TEXT_NUMBERS; place++) {
         int32_t value = decimal_at(field, &at);
         if (value < 0)
             return UND_MALFORMED_VERSION;

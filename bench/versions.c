@@ -1,5 +1,4 @@
-/* Ranking version fields, one by one and as a tray: each has up to all of a rank's numbers, one of sixteen is
-   malformed. */
+/* Ranking version fields, one by one and as a tray: one to four numbers each, one of sixteen is malformed. */
 #include "plain.h"
 #include "subjects.h"
 
@@ -20,9 +19,9 @@ static size_t count;
 
 static void put_version(uint8_t *field)
 {
-    char text[4 * UND_RANK_NUMBERS + 1] = "";
+    char text[4 * TEXT_NUMBERS + 1] = "";
     int length = 0;
-    for (uint32_t left = some_number() % UND_RANK_NUMBERS + 1; left > 0; left--)
+    for (uint32_t left = some_number() % TEXT_NUMBERS + 1; left > 0; left--)
         length +=
             snprintf(text + length, sizeof text - (size_t)length, "%u%s", some_number() % 1000, left > 1 ? "." : "");
     memset(field, 0, FIELD);

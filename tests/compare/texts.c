@@ -15,10 +15,10 @@ static size_t put_decimal(trial *t, char *at)
 void make_version(trial *t, uint8_t *field, size_t room)
 {
     static const char odd[] = {'.', '0', '9', 'a', ' ', '-', '/', ':', 0, 1, (char)0xFF};
-    enum { MOST_NUMBERS = RANK_NUMBERS + 2, LONGEST_NUMBER = 12 /* with its dot */ };
+    enum { MOST_NUMBERS = TEXT_NUMBERS + 2, LONGEST_NUMBER = 12 /* with its dot */ };
     char text[MOST_NUMBERS * LONGEST_NUMBER] = {0};
     size_t length = 0;
-    uint32_t numbers = once_in(t->c, 16) ? pick(t->c, MOST_NUMBERS + 1) : 1 + pick(t->c, RANK_NUMBERS);
+    uint32_t numbers = once_in(t->c, 16) ? pick(t->c, MOST_NUMBERS + 1) : 1 + pick(t->c, TEXT_NUMBERS);
     for (uint32_t k = 0; k < numbers; k++) {
         length += put_decimal(t, text + length);
         if (k + 1 < numbers)

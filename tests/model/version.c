@@ -1,4 +1,4 @@
-/* Version text: a decimal number, or up to as many as a rank has with dots between, padded with 00 to 16 bytes. */
+/* Version text: one to four decimal numbers with dots between, padded with 00 to 16 bytes. */
 #include "model.h"
 
 #include <string.h>
@@ -30,7 +30,7 @@ model_ranked model_rank(const uint8_t *field, size_t length)
 
     model_ranked given = {0, {0}};
     const char *piece = text;
-    for (int k = 0; k < RANK_NUMBERS; k++) {
+    for (int k = 0; k < TEXT_NUMBERS; k++) {
         size_t end = strcspn(piece, ".");
         long value = number_of(piece, end);
         if (value < 0)
