@@ -60,7 +60,8 @@ place  version           field  offset
 
 malformed, and so without a place:
   field 3 at 0x00020, "x": character 1 is "x", and a version has only digits and dots
-  next: write one to four numbers from 0 to 65535 with dots between them and no leading zero, in at most 16 characters
+  next: write one to four numbers from 0 to 65535 with dots between them and no leading zero, in at most 16 characters; \
+what a field has after its text must be 00
 ''')
         self.assertEqual((self.content(text)[:3], len(self.content(fields))), (b'1.9', 48))
 
@@ -140,8 +141,8 @@ class Lengths(TrayCase):
             for count in (MOST + 1, MOST + 2, 5 * MOST):
                 with self.subTest(version=version, count=count):
                     text, fields = self.file('text', (version + b'\n') * count), self.file('fields', field(version) * count)
-                    for words in ('--text', text), (fields,):
-                        self.refused(64, 'tray', *words, about=f'has more than {MOST} versions')
+                    for what, *words in ('versions', '--text', text), ('fields of 16 bytes', fields):
+                        self.refused(64, 'tray', *words, about=f'has more than {MOST} {what}')
                         self.assertEqual(self.tool('tray', *words, code=bench.REFUSED).stdout, '')
 
     def test_blank_lines_are_not_counted(self):
@@ -151,7 +152,7 @@ class Lengths(TrayCase):
     def test_not_whole_fields(self):
         for length in (1, 15, 17, 31, 16 * MOST - 1, 16 * MOST + 1, 16 * MOST + 15):
             path = self.file('list', (field(b'1') * (MOST + 1))[:length])
-            self.refused(64, 'tray', path, about=f'{length} bytes: of the last field only {length % 16}')
+            self.refused(64, 'tray', path, about=f'{length} bytes, {length % 16} too many or {16 - length % 16} too few')
 
     def test_no_more_is_read_than_is_needed(self):
         """The end of a list that is too long is not waited for."""
@@ -167,8 +168,10 @@ class Lengths(TrayCase):
             self.assertIn(words[-1].encode(), done.stderr)
 
     def test_large(self):
-        self.failed('tray', '--text', self.file('list.txt', b'1\n' + b' ' * 2**24 + b'\n2'), about='too large')
-        self.tool('tray', '--text', self.file('list.txt', b'1\n' + b' ' * (2**24 - 100) + b'\n2'))
+        for end in (b'\n2', b'\n2\n'):
+            most = b'1\n' + b' ' * (2**24 - 2 - len(end)) + end
+            self.assertEqual(self.json('tray', '--text', self.file('list.txt', most))[0]['count'], 2)
+            self.failed('tray', '--text', self.file('list.txt', b' ' + most), about='too large')
 
 
 class Output(TrayCase):

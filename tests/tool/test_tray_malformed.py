@@ -127,7 +127,7 @@ class OtherForms(TrayCase):
     FIELDS = 'this does not look like text: if it has fields, leave out --text'
     INPUT = 'standard input is read as text: if it has fields, name a file with them'
     UTF16 = 'this looks like UTF-16 text: save it as UTF-8, and read it with --text'
-    USUAL = {0: 'write one to four numbers', 64: 'split a longer list'}
+    USUAL = {0: 'write one to four numbers', 64: 'that was meant'}
 
     def check_next(self, number, following, content, *words):
         """The list's number, and what follows 'next:', in text and as JSON; None is what is said where nothing else is known."""
@@ -148,7 +148,7 @@ class OtherForms(TrayCase):
 
     def test_what_is_no_text(self):
         for number, content in [(0, b'\xFF' * 64), (64, b'\xFF' * 65), (0, field(b'x') * 3), (64, b'\0' * 17), (0, bytes(range(1, 33))),
-                                (0, field(b'1') + b'1.9\n' * 4)]:
+                                (0, b'1.9'.ljust(16) * 2), (0, field(b'1') + b'1.9\n' * 4)]:
             self.check_next(number, None, content)
 
     def test_fields_that_are_read_as_text(self):
@@ -156,7 +156,7 @@ class OtherForms(TrayCase):
             self.check_next(number, self.FIELDS, content, '--text')
             done = self.from_input(content, code=bench.REFUSED if number else bench.DONE)
             self.assertIn(self.INPUT, done.stderr if number else done.stdout)
-        for number, content in [(0, b'x\n'), (0, b'x\0\n1\n'), (64, b'1\n' * 5000)]:
+        for number, content in [(0, b'x\n'), (0, b'x\0\n1\n'), (64, b'1\n' * 5000), (64, b'1\n' * 1024 + b'\0\n')]:
             self.check_next(number, None, content, '--text')
 
     def test_utf16(self):

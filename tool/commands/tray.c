@@ -12,14 +12,16 @@
 
 static int refuse_tray(const tray *t, uint32_t number)
 {
+    size_t rest = t->fields.length % UND_VERSION_FIELD;
+    const char *form = other_form(t), *split = form ? form : "split the list, or see that it is the one that was meant";
     if (number != UND_BAD_TRAY)
         return refuse(number, "%s", t->name);
-    size_t rest = t->fields.length % UND_VERSION_FIELD;
-    const char *next = other_form(t);
-    next = next ? next : meaning_of(number)->next;
-    if (rest == 0)
-        return refuse_with(number, next, "%s has more than %d versions", t->name, UND_TRAY_MAX);
-    return refuse_with(number, next, "%s has %zu bytes: of the last field only %zu", t->name, t->fields.length, rest);
+    if (rest != 0)
+        return refuse_with(number, form ? form : "see that this is the file that was meant, and all of it",
+                           "%s has %zu bytes, %zu too many or %zu too few", t->name, t->fields.length, rest,
+                           UND_VERSION_FIELD - rest);
+    return refuse_with(number, split, "%s has more than %d %s", t->name, UND_TRAY_MAX,
+                       t->lines ? "versions" : "fields of 16 bytes");
 }
 
 /* What to do about malformed versions, if there are any. */
@@ -28,7 +30,12 @@ static const char *advice(const tray *t, const ranking *r)
     if (r->malformed_count == 0)
         return NULL;
     const char *next = r->count == 0 ? other_form(t) : NULL;
-    return next ? next : meaning_of(UND_MALFORMED_VERSION)->next;
+    if (next)
+        return next;
+    text usual = {0};
+    text_add(&usual, "%s%s", meaning_of(UND_MALFORMED_VERSION)->next,
+             t->lines ? "" : "; what a field has after its text must be 00");
+    return usual.chars;
 }
 
 int run_tray(int count, char **words)

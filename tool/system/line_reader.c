@@ -2,8 +2,9 @@
 
 line_reader begin_lines(FILE *file, size_t most)
 {
-    line_reader r = {.file = file, .left = most};
+    line_reader r = {.file = file};
     r.count = fread(r.begin, 1, MARK, file);
+    r.left = most - r.count;
     r.begun = mark_length((content){r.begin, r.count});
     return r;
 }
@@ -12,10 +13,9 @@ static int next_byte(line_reader *r)
 {
     if (r->begun < r->count)
         return r->begin[r->begun++];
-    if (r->left == 0)
-        return EOF;
-    r->left--;
-    return getc(r->file);
+    int byte = r->left > 0 ? getc(r->file) : EOF;
+    r->left -= byte != EOF;
+    return byte;
 }
 
 /* The next byte of a line, LF for any end of one, or EOF. */

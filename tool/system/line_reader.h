@@ -17,18 +17,19 @@ typedef struct {
 
 typedef struct {
     FILE *file;
-    size_t left;         /* how many more bytes may be read; 0: the text is too long */
+    size_t left;         /* how many more bytes may be read */
     size_t number;       /* of the line that was read last */
     uint8_t begin[MARK]; /* the file's first `count` bytes, of which those from `begun` on are not taken yet */
     size_t begun, count;
     bool after_cr;
 } line_reader;
 
-/* Begins to read a text, of less than `most` bytes. A mark that it is UTF-8 is passed over. */
+/* Begins to read a text, and reads no more of it than `most` bytes, 3 or more. A mark that it is UTF-8 is passed
+   over. */
 line_reader begin_lines(FILE *file, size_t most);
 
 /* Reads the next line that is not blank. A line ends with LF, CR or both; the last one may lack its end. Gives false
-   where there is none, the file can't be read or the text is too long. */
+   where there is none, the file can't be read or no more may be. */
 bool next_text_line(line_reader *r, text_line *line);
 
 #endif

@@ -6,7 +6,7 @@
 
 bool is_blank(uint8_t character);
 
-/* Whether bytes may be text: none of them is a control character. */
+/* Whether bytes may be text: none of them is a control character, but for blanks and line ends. */
 bool is_text(content bytes);
 
 /* How many bytes at the front of a text are the mark that it is UTF-8: MARK, or 0. */

@@ -4,7 +4,8 @@
 
 #include "tray.h"
 
-/* What to do next about a list of which nothing is good, if it looks as if it was read in a wrong way; else NULL. */
+/* What to do next about a list that is refused, or of which nothing is good, if its beginning looks as if it was read
+   in a wrong way; else NULL. */
 const char *other_form(const tray *t);
 
 #endif

@@ -26,7 +26,7 @@ static int read_fields(tray *t)
 
 static int read_lines(tray *t, FILE *file)
 {
-    line_reader reader = begin_lines(file, LARGEST_TEXT);
+    line_reader reader = begin_lines(file, LARGEST_TEXT + 1);
     t->lines = memory_of(MOST_READ * sizeof *t->lines);
     t->fields.bytes = memory_of(MOST_READ * UND_VERSION_FIELD);
     while (t->count < MOST_READ && next_text_line(&reader, &t->lines[t->count])) {

@@ -45,7 +45,7 @@ static const meaning numbers[] = {
     {UND_INSTALLED_NOT_VALID, "the installed file is not a valid image", "take another copy of the installed image"},
     {UND_CANDIDATE_NOT_VALID, "the candidate is not a valid image", "take another copy of the candidate"},
     {UND_BAD_TRAY, "a tray has at most 1024 versions, in whole fields of 16 bytes",
-     "split a longer list; of a file with fields, see that it is the one that was meant, and whole"},
+     "split a longer list; of a file with fields, see that all of it is there"},
     {UND_SHORT_RANKS, "the room for the ranks is too short",
      "report this: the program has lent too little room for them"},
     {UND_BAD_COMMAND, "uartboot has no such command, or none with a payload of this length",
