@@ -40,10 +40,10 @@ static void lengths(void)
 
     begin();
     HOLD(refuses(64, 1, ROOM) && refuses(64, UND_VERSION_FIELD - 1, ROOM) && refuses(64, UND_VERSION_FIELD + 1, ROOM));
-    HOLD(refuses(64, (UND_TRAY_MAX + 1) * UND_VERSION_FIELD, sizeof ranks / sizeof *ranks));
-    HOLD(refuses(65, UND_VERSION_FIELD, UND_TRAY_ENTRY - 1) && refuses(65, MOST, UND_TRAY_MAX * UND_TRAY_ENTRY - 1));
+    HOLD(refuses(64, MOST + UND_VERSION_FIELD, sizeof ranks / sizeof *ranks));
+    HOLD(refuses(65, UND_VERSION_FIELD, UND_TRAY_ENTRY - 1) && refuses(65, MOST, ROOM - 1));
     HOLD(und_rank_tray(fields, UND_VERSION_FIELD, ranks, UND_TRAY_ENTRY) == 0 && keeps_from(UND_TRAY_ENTRY));
-    HOLD(und_rank_tray(fields, UND_TRAY_MAX * UND_VERSION_FIELD, ranks, ROOM) == 0 && keeps_from(ROOM));
+    HOLD(und_rank_tray(fields, MOST, ranks, ROOM) == 0 && keeps_from(ROOM));
 }
 
 static void order_of_refusals(void)

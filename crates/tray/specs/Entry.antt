@@ -21,10 +21,10 @@ abbrev pub entryAt : (place : ℕ) (ranks : List ℕ) → List ℕ
 entryAt place ranks = partOf (place * entryLength) entryLength ranks
 
 -- every entry is its field's own, and the numbers past the last entry stay
-pub record EntriesOf (bytes before after : List ℕ) : Type 0 where
+pub record AsAlone (bytes before after : List ℕ) : Type 0 where
   pub entry-is : (place : ℕ) → place < fieldCount bytes → entryAt place after ≡ entryOf (fieldAt place bytes)
   pub rest-stays : drop (fieldCount bytes * entryLength) after ≡ drop (fieldCount bytes * entryLength) before
 
 -- so it is of every tray that is not refused
 abbrev pub EachAsAlone : Type 0
-EachAsAlone = (bytes ranks : List ℕ) → trayOf bytes ranks .number ≡ 0 → EntriesOf bytes ranks (trayOf bytes ranks .ranks)
+EachAsAlone = (bytes ranks : List ℕ) → trayOf bytes ranks .number ≡ 0 → AsAlone bytes ranks (trayOf bytes ranks .ranks)

@@ -51,9 +51,10 @@ figures =
     -- no field: nothing is written, with room or without
     ∷ figure [] [] (tray 0 [])
     ∷ figure [] (room 3) (tray 0 (room 3))
-    -- 15 and 17 bytes are refused before the room is looked at
+    -- 15 and 17 bytes are refused, the latter before the room is looked at
     ∷ figure (replicate 15 0x31) [] (tray badTray [])
     ∷ figure (older ++ (0x31 ∷ [])) (room 9) (tray badTray (room 9))
+    ∷ figure (older ++ (0x31 ∷ [])) [] (tray badTray [])
     ∷ figure older [] (tray shortRanks [])
     -- so are 1,025 fields; with 1,024 the room decides
     ∷ figure (replicate 16400 0x31) (room 2) (tray badTray (room 2))
