@@ -34,16 +34,19 @@ static int refuses(uint32_t number, size_t fields_len, size_t ranks_len)
     return und_rank_tray(fields, fields_len, ranks, ranks_len) == number && keeps_from(0);
 }
 
+/* Each size is named in its claim, so that what is not so says which one is wrong. */
 static void lengths(void)
 {
-    enum { MOST = UND_TRAY_MAX * UND_VERSION_FIELD, ROOM = UND_TRAY_MAX * UND_TRAY_ENTRY };
+    const size_t all = sizeof ranks / sizeof *ranks;
 
     begin();
-    HOLD(refuses(64, 1, ROOM) && refuses(64, UND_VERSION_FIELD - 1, ROOM) && refuses(64, UND_VERSION_FIELD + 1, ROOM));
-    HOLD(refuses(64, MOST + UND_VERSION_FIELD, sizeof ranks / sizeof *ranks));
-    HOLD(refuses(65, UND_VERSION_FIELD, UND_TRAY_ENTRY - 1) && refuses(65, MOST, ROOM - 1));
+    HOLD(refuses(64, 1, all) && refuses(64, UND_VERSION_FIELD - 1, all) && refuses(64, UND_VERSION_FIELD + 1, all));
+    HOLD(refuses(64, (UND_TRAY_MAX + 1) * UND_VERSION_FIELD, all));
+    HOLD(refuses(65, UND_VERSION_FIELD, UND_TRAY_ENTRY - 1));
+    HOLD(refuses(65, UND_TRAY_MAX * UND_VERSION_FIELD, UND_TRAY_MAX * UND_TRAY_ENTRY - 1));
     HOLD(und_rank_tray(fields, UND_VERSION_FIELD, ranks, UND_TRAY_ENTRY) == 0 && keeps_from(UND_TRAY_ENTRY));
-    HOLD(und_rank_tray(fields, MOST, ranks, ROOM) == 0 && keeps_from(ROOM));
+    HOLD(und_rank_tray(fields, UND_TRAY_MAX * UND_VERSION_FIELD, ranks, UND_TRAY_MAX * UND_TRAY_ENTRY) == 0);
+    HOLD(keeps_from(UND_TRAY_MAX * UND_TRAY_ENTRY));
 }
 
 static void order_of_refusals(void)
