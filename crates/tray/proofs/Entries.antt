@@ -25,7 +25,11 @@ entry-length field = rw (length-append, rank-length field)
 pub first-length : (count : ℕ) (bytes : List ℕ) → length (firstEntries count bytes) ≡ count * entryLength
 first-length zero bytes = refl
 first-length (suc count) bytes =
-    rw (length-append, entry-length, first-length count (drop fieldLength bytes)) (omega arith)
+    let field = take fieldLength bytes in
+    let rest = drop fieldLength bytes in
+    let parted : length (firstEntries (suc count) bytes) ≡ length (entryOf field) + length (firstEntries count rest)
+    = length-append (entryOf field) (firstEntries count rest) in
+    omega (arith, parted, entry-length field, first-length count rest)
 
 pub first-more : (count : ℕ) (bytes : List ℕ) → firstEntries (suc count) bytes ≡ firstEntries count bytes ++ entryOf (fieldAt count bytes)
 first-more zero bytes = append-nil (entryOf (take fieldLength bytes))
