@@ -143,12 +143,12 @@ class OtherForms(TrayCase):
 
     def test_text_that_is_read_as_fields(self):
         for number, content in [(64, b'1.9\n2.0\n'), (0, b'1.9\r\n2.0\r\n1.10\r\n'), (0, b'1.9\n2.0\n' * 4), (64, b'1.9\n' * 5000),
-                                (64, b'\xEF\xBB\xBF1.9\n'), (64, b'2.0'), (0, '\u00E9\n'.encode() * 16)]:
+                                (64, b'\xEF\xBB\xBF1.9\n'), (64, b'2.0'), (64, b'1.9\r' * 5), (0, '\u00E9\n'.encode() * 16)]:
             self.check_next(number, self.TEXT, content)
 
     def test_what_is_no_text(self):
-        for number, content in [(0, b'\xFF' * 64), (64, b'\xFF' * 65), (0, field(b'x') * 3), (64, b'\0' * 17), (0, bytes(range(1, 33))),
-                                (0, b'1.9'.ljust(16) * 2), (0, field(b'1') + b'1.9\n' * 4)]:
+        for number, content in [(0, b'\xFF' * 64), (64, b'\xFF' * 65), (64, b'\xFF' * 5), (0, field(b'x') * 3), (64, b'\0' * 17),
+                                (0, bytes(range(1, 33))), (0, b'1.9'.ljust(16) * 2), (0, field(b'1') + b'1.9\n' * 4)]:
             self.check_next(number, None, content)
 
     def test_fields_that_are_read_as_text(self):

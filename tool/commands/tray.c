@@ -20,8 +20,10 @@ static int refuse_tray(const tray *t, uint32_t number)
         return refuse_with(number, form ? form : "see that this is the file that was meant, and all of it",
                            "%s has %zu bytes, %zu too many or %zu too few", t->name, t->fields.length, rest,
                            UND_VERSION_FIELD - rest);
-    return refuse_with(number, split, "%s has more than %d %s", t->name, UND_TRAY_MAX,
-                       t->lines ? "versions" : "fields of 16 bytes");
+    if (t->lines)
+        return refuse_with(number, split, "%s has more than %d versions", t->name, UND_TRAY_MAX);
+    return refuse_with(number, split, "%s has more than %d fields of %d bytes", t->name, UND_TRAY_MAX,
+                       UND_VERSION_FIELD);
 }
 
 /* What to do about malformed versions, if there are any. */
