@@ -1,0 +1,4 @@
+pub mod Form
+pub mod Recording
+pub mod Figures
+pub mod Left
