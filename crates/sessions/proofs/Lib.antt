@@ -1,3 +1,4 @@
 pub mod Theorem
+pub mod Onward
 pub mod Fakes
 pub mod Naked
