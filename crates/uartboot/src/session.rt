@@ -93,7 +93,7 @@ fn act(
 }
 
 // The number that the lengths of the memories are refused with; 0 where they are not.
-fn refusal(ram: usize, flash: usize, work: usize) -> u32
+pub fn refusal(ram: usize, flash: usize, work: usize) -> u32
     ensures { λ r. ⌜ r ≡ refusalOf ram flash work ⌝ }
 {
     if !is_work_length(work) {

@@ -1,0 +1,4 @@
+pub mod Holding
+pub mod Playing
+pub mod Replays
+pub mod Figures

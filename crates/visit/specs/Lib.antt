@@ -1,0 +1,5 @@
+pub mod Compared
+pub mod Replay
+pub mod Figures
+pub mod Held
+pub mod Played
