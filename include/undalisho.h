@@ -71,7 +71,11 @@ enum {
     UND_BAD_TRAY = 64,
     UND_SHORT_RANKS = 65,
     UND_BAD_COMMAND = 71,
-    UND_SHORT_ANSWER = 72
+    UND_SHORT_ANSWER = 72,
+    UND_WRONG_RECORDING_MARK = 81,
+    UND_WRONG_RECORDING_VERSION = 82,
+    UND_UNKNOWN_ENTRY = 83,
+    UND_SHORT_ENTRY = 84
 };
 
 /* ---- Versions ----
@@ -627,6 +631,60 @@ und_report und_host_call(uint32_t record[8], uint32_t opcode, const uint8_t *pay
  *         }
  *     }
  */
+
+/* ---- Recorded visits ----
+ *
+ * A recording is what went over the line between a host and uartboot, from the greeting on:
+ *
+ *     byte  0  42 4C 47 ("BLG")
+ *           3  the form's version, 2 bytes: 1
+ *           5  entries, one after the other, up to the end; there may be none
+ *
+ * An entry:
+ *
+ *     byte  0  kind: 1 the bytes are the host's, 2 they are the device's
+ *           1  length, 2 bytes: 0 to 65535
+ *           3  so many bytes
+ *
+ * What counts are the joined bytes of all entries of the host, and those of all entries of the device. How they are cut
+ * into entries, and which entries of one kind lie between those of the other, makes no difference.
+ */
+
+enum {
+    UND_RECORDING_VERSION = 1,
+    UND_RECORDING_HEAD = 5, /* bytes before the first entry */
+    UND_ENTRY_HEAD = 3,     /* bytes of an entry before its own */
+    UND_ENTRY_MAX = 65535,  /* bytes of an entry: at most this */
+    UND_ENTRY_HOST = 1,     /* kinds of entries */
+    UND_ENTRY_DEVICE = 2
+};
+
+typedef struct {
+    uint32_t number;
+    uint32_t equal; /* 1: the device's bytes are the session's replies; 0: they differ, or the call is refused */
+    size_t place;   /* where they differ; else 0 */
+} und_replayed;
+
+/* Plays a recording: a fresh uartboot session with the memories as lent takes the joined bytes of the host, and its
+ * replies are compared with the joined bytes of the device. `place` is the first of the device's bytes, from 0, that
+ * differs. Where too few are recorded it is their count; where too many, it is the first one past the replies. The
+ * host's bytes after code runs are not taken, and make no difference.
+ *
+ * It takes time for the recording's length and for what its commands store and answer.
+ *
+ * Number:  0
+ *          1   work_len is not a length that a work buffer may have
+ *          2   ram_len is not a length that RAM may have
+ *          3   flash_len is not a length that flash may have
+ *          81  the mark is wrong or cut short
+ *          82  the version is not UND_RECORDING_VERSION, or cut short
+ *          83  an entry has an unknown kind
+ *          84  an entry is cut short, in its length or in its bytes
+ *              Of 81 to 84 it is what comes first in the recording. Nothing is played before all of it is judged.
+ * Writes:  RAM, flash and work buffer as the session leaves them, whether the bytes are equal or not
+ */
+und_replayed und_replay(const uint8_t *recording, size_t recording_len, uint8_t *ram, size_t ram_len, uint8_t *flash,
+                        size_t flash_len, uint8_t *work, size_t work_len);
 
 /* ---- Boot frames ----
  *
