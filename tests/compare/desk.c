@@ -113,7 +113,7 @@ void desk_set(trial *t, desk *d, const setting *s)
     memcpy(d->model_record, s->record, sizeof s->record);
 }
 
-static uint8_t *lent(const desk *d, uint8_t *bytes, size_t length)
+uint8_t *lent_or_null(const desk *d, uint8_t *bytes, size_t length)
 {
     return length == 0 && d->null_if_empty ? NULL : bytes;
 }
@@ -123,14 +123,16 @@ static und_report call_library(desk *d, uint8_t *input, size_t shown, uint8_t *r
     model_memories *m = &d->library;
     model_request *q = &d->library_request;
     if (d->kind == KIND_HOST)
-        return und_host_call(d->record, q->opcode, lent(d, q->payload, q->length), q->length, lent(d, input, shown),
-                             shown, lent(d, reply, room), room, lent(d, m->work, m->work_length), m->work_length);
+        return und_host_call(d->record, q->opcode, lent_or_null(d, q->payload, q->length), q->length,
+                             lent_or_null(d, input, shown), shown, lent_or_null(d, reply, room), room,
+                             lent_or_null(d, m->work, m->work_length), m->work_length);
     if (d->kind != KIND_UARTBOOT)
-        return und_rom_call(d->record, lent(d, input, shown), shown, lent(d, reply, room), room,
-                            lent(d, m->ram, m->ram_length), m->ram_length);
-    return und_uartboot_call(d->record, lent(d, input, shown), shown, lent(d, reply, room), room,
-                             lent(d, m->ram, m->ram_length), m->ram_length, lent(d, m->flash, m->flash_length),
-                             m->flash_length, lent(d, m->work, m->work_length), m->work_length);
+        return und_rom_call(d->record, lent_or_null(d, input, shown), shown, lent_or_null(d, reply, room), room,
+                            lent_or_null(d, m->ram, m->ram_length), m->ram_length);
+    return und_uartboot_call(d->record, lent_or_null(d, input, shown), shown, lent_or_null(d, reply, room), room,
+                             lent_or_null(d, m->ram, m->ram_length), m->ram_length,
+                             lent_or_null(d, m->flash, m->flash_length), m->flash_length,
+                             lent_or_null(d, m->work, m->work_length), m->work_length);
 }
 
 model_report call_model(uint32_t kind, uint32_t record[WORDS], model_line *line, const model_request *request,
@@ -148,7 +150,7 @@ static void same_record(trial *t, const desk *d)
         same_number(t, names[word], d->record[word], d->model_record[word]);
 }
 
-static void same_memories(trial *t, const desk *d)
+void same_memories(trial *t, const desk *d)
 {
     const stand *its = stand_of(d->kind);
     same_bytes(t, "RAM", d->library.ram, d->model.ram, d->model.ram_length);

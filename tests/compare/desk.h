@@ -32,6 +32,11 @@ void desk_set(trial *t, desk *d, const setting *s);
    stays where it is until the next call. */
 model_report desk_call(trial *t, desk *d, const uint8_t *input, size_t shown, size_t room, const uint8_t **reply);
 
+/* How the library is lent bytes: NULL for none, where the desk does so. */
+uint8_t *lent_or_null(const desk *d, uint8_t *bytes, size_t length);
+/* Library and model have the same in their memories, and nothing beside them was written. */
+void same_memories(trial *t, const desk *d);
+
 /* The model's session, or host, of a kind. */
 model_report call_model(uint32_t kind, uint32_t record[WORDS], model_line *line, const model_request *request,
                         const model_memories *memories);

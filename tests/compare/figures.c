@@ -76,4 +76,6 @@ void run_figures(trial *t)
     range_figures(t);
     talk_figures(t);
     host_call_figures(t);
+    replay_figures(t);
+    recorded_figures(t);
 }

@@ -6,7 +6,7 @@
 
 void run_figures(trial *t);
 
-/* Those of trays, of slots, of sessions, and of hosts, a file for each. */
+/* Those of trays, of slots, of sessions, of hosts, and of recordings, a file for each. */
 void tray_figures(trial *t);
 void slot_figures(trial *t);
 void exchange_figures(trial *t);
@@ -18,6 +18,8 @@ void command_figures(trial *t);
 void range_figures(trial *t);
 void talk_figures(trial *t);
 void host_call_figures(trial *t);
+void replay_figures(trial *t);
+void recorded_figures(trial *t);
 
 /* A version field with a text. */
 void field_of(const char *text, uint8_t field[VERSION_FIELD]);

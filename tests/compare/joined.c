@@ -41,8 +41,7 @@ static bool call(trial *t, line_end *e, line_end *other, size_t shown, size_t ro
     model_report got = desk_call(t, &e->desk, e->came.bytes + e->taken, shown, room, &reply);
     if (got.number)
         differ(t, "a call on the line is refused with %u", got.number);
-    for (size_t i = 0; i < got.sent; i++)
-        stream_add(&other->came, reply[i]);
+    stream_add_all(&other->came, reply, got.sent);
     e->taken += got.taken;
     e->sent += got.sent;
     return got.taken || got.sent;

@@ -13,12 +13,17 @@ void stream_add(stream *s, uint8_t byte)
     s->bytes[s->length++] = byte;
 }
 
+void stream_add_all(stream *s, const uint8_t *bytes, size_t count)
+{
+    for (size_t i = 0; i < count; i++)
+        stream_add(s, bytes[i]);
+}
+
 void play_all(lead *g, const uint8_t *bytes, size_t count)
 {
     static uint8_t replies[70000];
     model_line line = {bytes, count, 0, replies, sizeof replies, 0};
-    for (size_t i = 0; i < count; i++)
-        stream_add(g->s, bytes[i]);
+    stream_add_all(g->s, bytes, count);
     call_model(g->record[WORD_KIND], g->record, &line, g->request, g->memories);
 }
 

@@ -19,6 +19,7 @@ typedef struct {
 } lead;
 
 void stream_add(stream *s, uint8_t byte);
+void stream_add_all(stream *s, const uint8_t *bytes, size_t count);
 /* Appends bytes, and shows them to what is followed. */
 void play_all(lead *g, const uint8_t *bytes, size_t count);
 void play(lead *g, uint32_t byte);

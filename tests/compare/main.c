@@ -31,6 +31,7 @@ static const case_kind kinds[] = {
     {"host record", 18, host_record_case},
     {"joined line", 6, joined_case},
     {"length", 2, length_case},
+    {"recording", 16, recording_case},
 };
 
 enum { KINDS = sizeof kinds / sizeof *kinds, SHRINK_SECONDS = 20, WATCH_SECONDS = 10 };

@@ -42,6 +42,9 @@ typedef struct {
 #define RANGE_IN_FLASH 3, 4, 8, 18, -1
 #define TAKES_CODE 6, 7, 8, 9, -1
 #define HAS_OPCODE 5, 6, 7, 8, 9, 10, 11, 12, 13, 14, 15, 16, 17, -1
+#define OF_A_FILE 0, 81, 82, 83, 84, -1
+#define ENTRY_LENGTHS ENTRY_EMPTY, ENTRY_ONE, ENTRY_SHORT, ENTRY_LONG, ENTRY_MOST, -1
+#define CUTS CUT_AFTER_KIND, CUT_IN_LENGTH, CUT_BEFORE_BYTES, CUT_IN_BYTES, CUT_ONE_SHORT, -1
 #define IN_RAM ADDRESS_FIRST, ADDRESS_LAST, ADDRESS_OTHER, -1
 #define OUTSIDE ADDRESS_BEFORE, ADDRESS_BEHIND, ADDRESS_HIGHEST, ADDRESS_OTHER, -1
 
@@ -207,6 +210,33 @@ static const wanted all[SEENS] = {
     [SEEN_JOINED_DONE] = {"a command done on a line of opcode", {EVERY_OPCODE}},
     [SEEN_JOINED_REFUSED] = {"a command refused on a line with reason", {13, 14, 15, 16, 17, 18, 21, -1}},
     [SEEN_JOINED_AGAIN] = {"a further command on a line, after one that was done or refused:", {0, 1, -1}},
+    [SEEN_REPLAY_NUMBER] = {"number of a replay", {0, 1, 2, 3, 81, 82, 83, 84, -1}},
+    [SEEN_REPLAY_LENGTHS] = {"lengths of a replay's memories that are refused, of class", {1, 2, 3, 4, 5, 6, 7, -1}},
+    [SEEN_REPLAY_1] = {"a replay refused with 1 in place of", {OF_A_FILE}},
+    [SEEN_REPLAY_2] = {"a replay refused with 2 in place of", {OF_A_FILE}},
+    [SEEN_REPLAY_3] = {"a replay refused with 3 in place of", {OF_A_FILE}},
+    [SEEN_REPLAY_NULL] = {"an empty recording, NULL or not:", {0, 1, -1}},
+    [SEEN_HEAD_CUT] = {"a recording cut short after byte", {0, 1, 2, 3, 4, -1}},
+    [SEEN_HEAD_WRONG] = {"a recording with only one byte of its head wrong, place", {0, 1, 2, 3, 4, -1}},
+    [SEEN_WRONG_BOTH] = {"a recording whose version is wrong too, with number", {81, -1}},
+    [SEEN_ENTRIES] = {"entries of a recording, of class", {0, 1, 2, 3, -1}},
+    [SEEN_ENTRY_ORDER] = {"entries in an order of class",
+                          {ORDER_NO_ENTRY, ORDER_ONE_KIND, ORDER_HOST_FIRST, ORDER_DEVICE_FIRST, ORDER_IN_TURNS, -1}},
+    [SEEN_ENTRY_HOST] = {"a host's entry of class", {ENTRY_LENGTHS}},
+    [SEEN_ENTRY_DEVICE] = {"a device's entry of class", {ENTRY_LENGTHS}},
+    [SEEN_AFTER_83] = {"an unknown entry, first or not:", {0, 1, -1}},
+    [SEEN_AFTER_84] = {"an entry cut short, first or not:", {0, 1, -1}},
+    [SEEN_UNKNOWN_KIND] = {"an unknown entry of kind", {0, 3, 4, -1}},
+    [SEEN_UNKNOWN_AND_CUT] = {"an unknown entry, cut short or not:", {0, 1, -1}},
+    [SEEN_CUT_HOST] = {"a host's entry cut short, of class", {CUTS}},
+    [SEEN_CUT_DEVICE] = {"a device's entry cut short, of class", {CUTS}},
+    [SEEN_REPLAY_ENDING] = {"a replay of class",
+                            {REPLAY_EQUAL, REPLAY_AT_FIRST, REPLAY_AT_LAST, REPLAY_BETWEEN, REPLAY_TOO_FEW, REPLAY_NONE,
+                             REPLAY_TOO_MANY, -1}},
+    [SEEN_EQUAL_FAR] = {"equal bytes as far as class", {0, 1, 2, 3, -1}},
+    [SEEN_DIFFERS_FAR] = {"a first difference as far on as class", {0, 1, 2, 3, -1}},
+    [SEEN_HOST_AFTER_RUN] = {"recorded host bytes after code runs, equal or not:", {0, 1, -1}},
+    [SEEN_STORED_AFTER] = {"after a difference a store in memory", {0, 1, -1}},
 };
 
 /* Whether what is wanted names a number. */

@@ -92,6 +92,21 @@ typedef enum {
     /* on a line between host and session: commands done by opcode, refused by reason; a further command after one that
        was done (0) or refused (1) */
     SEEN_JOINED_DONE, SEEN_JOINED_REFUSED, SEEN_JOINED_AGAIN,
+    /* recordings: the replay's number; which lengths of memories are refused, 1 work buffer, 2 RAM, 4 flash; with 1, 2
+       and 3 in the place of what number; an empty file, 1 where it is lent as NULL */
+    SEEN_REPLAY_NUMBER, SEEN_REPLAY_LENGTHS, SEEN_REPLAY_1, SEEN_REPLAY_2, SEEN_REPLAY_3, SEEN_REPLAY_NULL,
+    /* a head that is right as far as it goes, by its length; with one wrong byte, by place; 81 where the version is
+       wrong too */
+    SEEN_HEAD_CUT, SEEN_HEAD_WRONG, SEEN_WRONG_BOTH,
+    /* entries, 2 for few of them and 3 for many; their order and, by kind, their lengths (see below) */
+    SEEN_ENTRIES, SEEN_ENTRY_ORDER, SEEN_ENTRY_HOST, SEEN_ENTRY_DEVICE,
+    /* wrong entries, 1 where others come before; kinds that are unknown, 4 for those above 3, and 1 where such an entry
+       is cut short too; how many bytes there are of one that is cut short (see below) */
+    SEEN_AFTER_83, SEEN_AFTER_84, SEEN_UNKNOWN_KIND, SEEN_UNKNOWN_AND_CUT, SEEN_CUT_HOST, SEEN_CUT_DEVICE,
+    /* where replayed bytes differ (see below); how far on, by 256, 4096 and 60000 bytes: all that are equal, or the
+       first difference; host bytes after code runs, 1 with equal bytes; after a difference, 0 RAM and 1 flash were
+       stored to */
+    SEEN_REPLAY_ENDING, SEEN_EQUAL_FAR, SEEN_DIFFERS_FAR, SEEN_HOST_AFTER_RUN, SEEN_STORED_AFTER,
     SEENS
 } seen_what;
 /* clang-format on */
@@ -115,6 +130,26 @@ typedef enum { ROOM_EXACT, ROOM_LONGER, ROOM_ONE_SHORT, ROOM_FAR_SHORT, ROOM_SHO
 
 /* Where a tray's field lies. */
 typedef enum { FIELD_FIRST, FIELD_BETWEEN, FIELD_LAST } seen_field;
+
+/* A recording's entries: none, all of one kind, all of the host's first or all of the device's, any other. */
+typedef enum { ORDER_NO_ENTRY, ORDER_ONE_KIND, ORDER_HOST_FIRST, ORDER_DEVICE_FIRST, ORDER_IN_TURNS } seen_order;
+
+/* An entry's length: 0, 1, one byte's number, two bytes', the most. */
+typedef enum { ENTRY_EMPTY, ENTRY_ONE, ENTRY_SHORT, ENTRY_LONG, ENTRY_MOST } seen_entry;
+
+/* An entry that is cut short: after its kind, in its length, before its bytes, among them, before the last one. */
+typedef enum { CUT_AFTER_KIND = 1, CUT_IN_LENGTH, CUT_BEFORE_BYTES, CUT_IN_BYTES, CUT_ONE_SHORT } seen_cut;
+
+/* A replay: equal; differing in the first reply, in the last, between; with too few bytes recorded, none, too many. */
+typedef enum {
+    REPLAY_EQUAL,
+    REPLAY_AT_FIRST,
+    REPLAY_AT_LAST,
+    REPLAY_BETWEEN,
+    REPLAY_TOO_FEW,
+    REPLAY_NONE,
+    REPLAY_TOO_MANY
+} seen_replay;
 
 /* Where an address lies: RAM's first and last byte, the ones beside them, the last ones of 32 bits, any other. */
 typedef enum {

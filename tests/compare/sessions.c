@@ -29,6 +29,13 @@ static size_t work_length(trial *t)
     return once_in(t->c, 8) ? PICK_OF(t->c, edges) : 64 + pick(t->c, 300);
 }
 
+void fill_memories(trial *t, const model_memories *m)
+{
+    fill(t->c, m->ram, m->ram_length);
+    fill(t->c, m->flash, m->flash_length);
+    fill(t->c, m->work, m->work_length);
+}
+
 model_memories first_memories(trial *t, uint32_t kind)
 {
     size_t ram = ram_length(t), flash = 0, work = 0;
@@ -37,9 +44,7 @@ model_memories first_memories(trial *t, uint32_t kind)
         work = work_length(t);
     }
     model_memories m = contents_of(FIRST_CONTENTS, ram, flash, work);
-    fill(t->c, m.ram, m.ram_length);
-    fill(t->c, m.flash, m.flash_length);
-    fill(t->c, m.work, m.work_length);
+    fill_memories(t, &m);
     return m;
 }
 
@@ -177,26 +182,28 @@ static size_t some_length(trial *t, const uint32_t *edges, uint32_t count, uint3
     return once_in(t->c, 4) ? pick(t->c, last + 1) : edges[pick(t->c, count)];
 }
 
-/* Lengths that are mostly refused, one or several at a time. */
-void length_case(trial *t)
+model_memories refused_memories(trial *t, uint32_t kind)
 {
     static const uint32_t rams[] = {1, 131072, 0, 131073};
     static const uint32_t works[] = {64, 65535, 63, 65536, 0, 1};
     static const uint32_t flashes[] = {4096, 8192, 0, 4095, 4097, 1, 12287};
     static const uint32_t large_flashes[] = {4194304, 4198400, 4194303};
+    model_memories m = contents_of(FIRST_CONTENTS, some_length(t, rams, 4, MOST_RAM + 32), 0, 0);
+    if (kind == KIND_UARTBOOT) {
+        m.work_length = some_length(t, works, 6, MOST_WORK + 32);
+        m.flash_length = once_in(t->c, 12) ? some_length(t, large_flashes, 3, MOST_FLASH + SECTOR)
+                                           : some_length(t, flashes, 7, 3 * SECTOR);
+    }
+    fill_memories(t, &m);
+    return m;
+}
+
+void length_case(trial *t)
+{
     uint32_t kind = pick(t->c, 3);
     uint8_t input[12];
     visit v = {.start.kind = kind, .stream = input, .length = pick(t->c, sizeof input)};
-    model_memories *m = &v.start.contents;
-    *m = contents_of(FIRST_CONTENTS, some_length(t, rams, 4, MOST_RAM + 32), 0, 0);
-    if (kind == KIND_UARTBOOT) {
-        m->work_length = some_length(t, works, 6, MOST_WORK + 32);
-        m->flash_length = once_in(t->c, 12) ? some_length(t, large_flashes, 3, MOST_FLASH + SECTOR)
-                                            : some_length(t, flashes, 7, 3 * SECTOR);
-    }
-    fill(t->c, m->ram, m->ram_length);
-    fill(t->c, m->flash, m->flash_length);
-    fill(t->c, m->work, m->work_length);
+    v.start.contents = refused_memories(t, kind);
     fill(t->c, input, sizeof input);
     model_fresh(kind, v.start.record);
     v.start.fresh = !once_in(t->c, 3);

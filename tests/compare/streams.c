@@ -145,6 +145,14 @@ void plan_command(trial *t, planned *p, const model_memories *memories)
         p->length = pick(t->c, 2) ? pick(t->c, 12) : (uint32_t)memories->work_length + 1;
 }
 
+void play_planned(lead *g, const planned *p)
+{
+    uint8_t header[4] = {0x01, p->opcode, (uint8_t)p->length, (uint8_t)(p->length >> 8)};
+    play_all(g, header, sizeof header);
+    if (g->record[WORD_PHASE] == 6 && g->record[WORD_LENGTH] == p->length)
+        play_all(g, p->payload, p->length);
+}
+
 static void play_command(lead *g)
 {
     static planned p;
@@ -154,10 +162,7 @@ static void play_command(lead *g)
     if (g->record[WORD_PHASE] != 1)
         return;
     plan_command(t, &p, g->memories);
-    uint8_t header[4] = {0x01, p.opcode, (uint8_t)p.length, (uint8_t)(p.length >> 8)};
-    play_all(g, header, sizeof header);
-    if (g->record[WORD_PHASE] == 6 && g->record[WORD_LENGTH] == p.length)
-        play_all(g, p.payload, p.length);
+    play_planned(g, &p);
 }
 
 /* What a session in the middle of a command waits for. */

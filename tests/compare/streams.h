@@ -33,4 +33,7 @@ void plan_bad_count(trial *t, planned *p, const model_memories *memories);
 /* Mostly a command that they admit. */
 void plan_command(trial *t, planned *p, const model_memories *memories);
 
+/* Appends a command's header, and its payload where the header is accepted. */
+void play_planned(lead *g, const planned *p);
+
 #endif

@@ -34,6 +34,7 @@ void host_stream_case(trial *t);
 void host_record_case(trial *t);
 void joined_case(trial *t);
 void length_case(trial *t);
+void recording_case(trial *t);
 
 /* Notes a difference; the first one stays. */
 __attribute__((format(printf, 2, 3))) void differ(trial *t, const char *format, ...);

@@ -118,6 +118,8 @@ typedef struct {
 bool model_ram_length(size_t length);
 bool model_flash_length(size_t length);
 bool model_work_length(size_t length);
+/* The number of a uartboot session whose memories have lengths that are refused, else 0. */
+uint32_t model_judge_memories(const model_memories *memories);
 
 void model_fresh(uint32_t kind, uint32_t record[WORDS]);
 /* A call to a receiver, or to uartboot; line->taken and line->sent are 0 at first. */
@@ -181,6 +183,30 @@ typedef struct {
 model_ending model_uncut(uint32_t kind, const uint8_t *stream, size_t length, const model_memories *memories);
 model_ending model_uncut_host(const model_request *request, const uint8_t *stream, size_t length,
                               const model_memories *memories);
+
+/* Recorded visits. */
+enum { RECORDING_HEAD = 5, ENTRY_HEAD = 3, MOST_ENTRY = 65535, ENTRY_HOST = 1, ENTRY_DEVICE = 2 };
+
+typedef struct {
+    uint8_t *bytes;
+    size_t count;
+} model_bytes;
+
+/* The joined bytes of each kind; where the file is refused, those of the entries before. */
+typedef struct {
+    uint32_t number;
+    model_bytes host, device;
+} model_recording;
+
+typedef struct {
+    uint32_t number, equal;
+    size_t place; /* of the first difference; 0 where there is none */
+} model_replayed;
+
+model_recording model_read_recording(const uint8_t *file, size_t length);
+void model_free_recording(model_recording *r);
+/* Writes the memories. */
+model_replayed model_replay(const uint8_t *file, size_t length, const model_memories *memories);
 
 /* The boot frame. */
 typedef struct {

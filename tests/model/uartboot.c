@@ -199,13 +199,19 @@ static uint32_t follow(uint32_t *s, model_line *l, const model_memories *m)
     return standing;
 }
 
+uint32_t model_judge_memories(const model_memories *memories)
+{
+    return !model_work_length(memories->work_length)     ? 1
+           : !model_ram_length(memories->ram_length)     ? 2
+           : !model_flash_length(memories->flash_length) ? 3
+                                                         : 0;
+}
+
 model_report model_uartboot_call(uint32_t record[WORDS], model_line *line, const model_memories *memories)
 {
-    uint32_t number = !model_work_length(memories->work_length)     ? 1
-                      : !model_ram_length(memories->ram_length)     ? 2
-                      : !model_flash_length(memories->flash_length) ? 3
-                      : !sound(record, memories)                    ? 4
-                                                                    : 0;
+    uint32_t number = model_judge_memories(memories);
+    if (number == 0 && !sound(record, memories))
+        number = 4;
     if (number)
         return (model_report){number, 0, 0, 0};
     uint32_t standing = follow(record, line, memories);
