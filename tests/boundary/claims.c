@@ -182,6 +182,8 @@ static void null_where_empty(void)
     HOLD(und_host_call(record, 0x0B, NULL, 0, NULL, 0, NULL, 0, NULL, 0).number == 72);
     und_host_fresh(record);
     HOLD(und_host_call(record, 0x0C, NULL, 0, NULL, 0, NULL, 0, NULL, 0).standing == UND_WANTS_BYTE);
+    HOLD(und_replay(NULL, 0, NULL, 0, NULL, 0, NULL, 0).number == 1);
+    HOLD(und_replay(NULL, 0, ram, 1, flash, UND_FLASH_SECTOR, work, UND_WORK_MIN).number == 81);
     HOLD(und_frame_p(NULL, 0, NULL, 0).number == 41);
     HOLD(und_frame_e(ram, 1, NULL, 0).number == 43);
 }

@@ -90,9 +90,23 @@ static int hosts(void)
            record[UND_RECORD_REASON] == 0 && memcmp(answer, "0.0.0.3", sizeof answer) == 0;
 }
 
+/* A greeting alone, and one whose last byte differs. */
+static int recordings(void)
+{
+    uint8_t recording[] = {'B', 'L', 'G', 1, 0, UND_ENTRY_DEVICE, 4, 0, 2, 1, 0, 3};
+    und_replayed equal, differing;
+
+    equal = und_replay(recording, sizeof recording, ram, sizeof ram, flash, sizeof flash, work, sizeof work);
+    recording[sizeof recording - 1] = 4;
+    differing = und_replay(recording, sizeof recording, ram, sizeof ram, flash, sizeof flash, work, sizeof work);
+    return equal.number == 0 && equal.equal == 1 && differing.number == 0 && differing.equal == 0 &&
+           differing.place == 3;
+}
+
 int main(void)
 {
-    if (versions() && trays() && images() && readings() && makings() && receivers() && uartboot() && hosts())
+    if (versions() && trays() && images() && readings() && makings() && receivers() && uartboot() && hosts() &&
+        recordings())
         return 0;
     fprintf(stderr, "installed: the library answers otherwise\n");
     return 1;

@@ -14,6 +14,11 @@ static uint32_t call_number(size_t ram_len, size_t flash_len, size_t work_len)
     return und_uartboot_call(record, NULL, 0, NULL, 0, ram, ram_len, flash, flash_len, work, work_len).number;
 }
 
+static uint32_t replay_number(const char *recording, size_t recording_len)
+{
+    return und_replay((const uint8_t *)recording, recording_len, ram, 1, flash, sizeof flash, work, sizeof work).number;
+}
+
 static void refusals(void)
 {
     uint8_t field[UND_VERSION_FIELD] = {'1'};
@@ -45,6 +50,10 @@ static void refusals(void)
     und_host_fresh(record);
     HOLD(und_host_call(record, 0x07, NULL, 0, NULL, 0, NULL, 0, NULL, 0).number == UND_BAD_COMMAND);
     HOLD(und_host_call(record, 0x0B, NULL, 0, NULL, 0, NULL, 0, reply, 6).number == UND_SHORT_ANSWER);
+    HOLD(replay_number("BLX", 3) == UND_WRONG_RECORDING_MARK);
+    HOLD(replay_number("BLG\2\0", 5) == UND_WRONG_RECORDING_VERSION);
+    HOLD(replay_number("BLG\1\0\3", 6) == UND_UNKNOWN_ENTRY);
+    HOLD(replay_number("BLG\1\0\1", 6) == UND_SHORT_ENTRY);
 }
 
 /* The last reason of a fresh session that is fed these bytes. */

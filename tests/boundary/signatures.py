@@ -22,6 +22,7 @@ TYPEDEFS = {
     "CommandRead": "und_command",
     "ImageHeader": "und_image_header",
     "ProductHeader": "und_product_header",
+    "Replayed": "und_replayed",
 }
 
 # The header's name for a Rattle parameter of one function, or of all, where it has another.

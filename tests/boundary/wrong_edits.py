@@ -19,6 +19,7 @@ CAPI_TRAY = "crates/capi_tray/src/lib.rt"
 CAPI_FRAME, FRAME = "crates/capi_frame/src/lib.rt", "crates/frame/src/lib.rt"
 CAPI_ROM, CAPI_UARTBOOT, CALLED = "crates/capi_rom/src/lib.rt", "crates/capi_uartboot/src/lib.rt", "crates/called/src/lib.rt"
 CAPI_HOST = "crates/capi_host/src/lib.rt"
+CAPI_REPLAY, VISIT = "crates/capi_replay/src/lib.rt", "crates/visit/src/lib.rt"
 CAPI_INSPECT, IMAGE_HEADER = "crates/capi_inspect/src/lib.rt", "crates/inspect/src/image_header.rt"
 CAPI_HEADERS, HEADERS, IMAGE = "crates/capi_headers/src/lib.rt", "crates/headers/src/lib.rt", "crates/image/src/lib.rt"
 RANK, ORDER = "crates/version/src/rank.rt", "crates/version/src/order.rt"
@@ -51,7 +52,9 @@ EDITS = {
         ("byte of 32 bits as result", "uint8_t und_next_id(", "uint32_t und_next_id(", "conflicting types for 'und_next_id'"),
         ("time of 64 bits", "uint32_t time);", "uint64_t time);", "conflicting types for 'und_make_image_header'"),
         ("const dropped", "(const uint8_t *field,", "(uint8_t *field,", "conflicting types for 'und_rank'"),
-        ("const added", "uint8_t *work, size_t", "const uint8_t *work, size_t", "conflicting types for 'und_uartboot_call'"),
+        ("const added", "uint8_t *input, size_t input_len, uint8_t *reply,\n                             size_t reply_len, uint8_t *ram",
+         "uint8_t *input, size_t input_len, uint8_t *reply,\n                             size_t reply_len, const uint8_t *ram",
+         "conflicting types for 'und_uartboot_call'"),
         ("record that is only read", "uartboot_fresh(uint32_t record[8])", "uartboot_fresh(const uint32_t record[8])",
          "conflicting types for 'und_uartboot_fresh'"),
         ("record of other words", "uartboot_fresh(uint32_t record[8])", "uartboot_fresh(uint64_t record[8])",
@@ -81,6 +84,15 @@ EDITS = {
          "size_t ranks_len, uint32_t *ranks, size_t fields_len", "the header gives und_rank_tray the parameters"),
         ("struct in place of a number", "uint32_t und_rank_tray(", "und_ranked und_rank_tray(",
          "conflicting types for 'und_rank_tray'"),
+        ("recording that is written", "(const uint8_t *recording,", "(uint8_t *recording,", "conflicting types for 'und_replay'"),
+        ("recording without a length", ", size_t recording_len", "", "conflicting types for 'und_replay'"),
+        ("flash that is only read", "size_t ram_len, uint8_t *flash,\n                        size_t flash_len,",
+         "size_t ram_len, const uint8_t *flash,\n                        size_t flash_len,", "conflicting types for 'und_replay'"),
+        ("memories of a replay swapped",
+         "recording_len, uint8_t *ram, size_t ram_len, uint8_t *flash,\n                        size_t flash_len",
+         "recording_len, uint8_t *flash, size_t flash_len, uint8_t *ram,\n                        size_t ram_len",
+         "the header gives und_replay the parameters"),
+        ("report in place of a replay", "und_replayed und_replay(", "und_report und_replay(", "conflicting types for 'und_replay'"),
         # Structs.
         ("fields swapped", "uint32_t number;\n    uint32_t slot;", "uint32_t slot;\n    uint32_t number;",
          'static assertion failed: "und_selected.number: place"'),
@@ -102,6 +114,11 @@ EDITS = {
         ("field of 32 bits", "size_t length;", "uint32_t length;", 'static assertion failed: "und_framed.length: type"'),
         ("field of 64 bits on any machine", "size_t taken;", "uint64_t taken;",
          'static assertion failed: "und_report.taken: type"'),
+        ("answer before its number", "uint32_t number;\n    uint32_t equal;", "uint32_t equal;\n    uint32_t number;",
+         'static assertion failed: "und_replayed.number: place"'),
+        ("answer of 8 bits", "uint32_t equal;", "uint8_t equal;", 'static assertion failed: "und_replayed.equal: type"'),
+        ("difference's place of 32 bits", "size_t place;   /* where they", "uint32_t place; /* where they",
+         'static assertion failed: "und_replayed.place: type"'),
         ("longer array", "rank[UND_RANK_NUMBERS]", "rank[UND_TRAY_ENTRY]", 'static assertion failed: "und_ranked.rank: type"'),
         ("longer header", "bytes[64]", "bytes[65]", 'static assertion failed: "und_image_header.bytes: type"'),
         ("shorter header", "bytes[12]", "bytes[11]", 'static assertion failed: "und_product_header.bytes: type"'),
@@ -127,6 +144,8 @@ EDITS = {
         ("making left out", "und_product_header und_make_product_header(uint32_t first, uint32_t second);", "",
          "lacks .'function und_make_product_header'."),
         ("host left out", "void und_host_fresh(uint32_t record[8]);", "", "lacks .'function und_host_fresh'."),
+        ("replay renamed", "und_replayed und_replay(", "und_replayed und_play(",
+         "the header has .'function und_play'. that .*lacks .'function und_replay'."),
         ("function renamed", "und_ranked und_rank(", "und_ranked und_ranks(",
          "the header has .'function und_ranks'. that .*lacks .'function und_rank'."),
         ("variable added", "/* ---- Versions", "extern int und_state;\n/* ---- Versions",
@@ -158,6 +177,9 @@ EDITS = {
         ("smaller tray", "UND_TRAY_MAX = 1024", "UND_TRAY_MAX = 1023", "not so: .*UND_TRAY_MAX"),
         ("entry without its number", "UND_RANK_NUMBERS + 1", "UND_RANK_NUMBERS", "not so: .*UND_TRAY_ENTRY"),
         ("longer entry", "UND_RANK_NUMBERS + 1", "UND_RANK_NUMBERS + 2", "not so: .*UND_TRAY_ENTRY"),
+        ("shorter entry", "UND_ENTRY_MAX = 65535", "UND_ENTRY_MAX = 65534", "not so: .*UND_ENTRY_MAX"),
+        ("host's and device's entries alike", "UND_ENTRY_DEVICE = 2", "UND_ENTRY_DEVICE = 1", "not so: .*UND_ENTRY_DEVICE"),
+        ("longer head of an entry", "UND_ENTRY_HEAD = 3", "UND_ENTRY_HEAD = 4", "not so: .*UND_ENTRY_HEAD"),
         ("wrong address", "UND_RAM_FIRST = 0x07FC0000", "UND_RAM_FIRST = 0x07FC0001", "not so: .*UND_RAM_FIRST"),
         # Phases.
         ("running without its opcode", "opcode (05), held (the address)", "held (the address)",
@@ -224,6 +246,14 @@ EDITS = {
         ("payload that is written", "payload: &[u8]", "payload: &mut [u8]", "conflicting types for 'und_host_call'"),
         ("function renamed", "fn und_host_fresh(", "fn und_host_new(", "lacks .'function und_host_new'."),
     ],
+    CAPI_REPLAY: [
+        ("recording that is written", "recording: &[u8]", "recording: &mut [u8]", "conflicting types for 'und_replay'"),
+        ("flash that is only read", "flash: &mut [u8]", "flash: &[u8]", "conflicting types for 'und_replay'"),
+        ("parameter renamed", "ram: &mut [u8]", "memory: &mut [u8]", "the header gives und_replay the parameters"),
+        ("function renamed", "fn und_replay(", "fn und_play(", "lacks .'function und_play'."),
+    ],
+    VISIT: [("fields swapped", "pub equal: u32,\n    pub place: usize,", "pub place: usize,\n    pub equal: u32,",
+             'static assertion failed: "und_replayed.equal: place"')],
     CALLED: [("counts swapped", "pub taken: usize,\n    pub sent: usize,", "pub sent: usize,\n    pub taken: usize,",
               'static assertion failed: "und_report.sent: place"')],
     CAPI_INSPECT: [
@@ -265,13 +295,14 @@ ARCHIVES = [
      "the archive .*lacks .'function und_make_image_header'."),
     ("reading left out", "--localize-symbol=und_read_image", "the archive .*lacks .'function und_read_image'."),
     ("host left out", "--localize-symbol=und_host_call", "the archive .*lacks .'function und_host_call'."),
+    ("replay left out", "--localize-symbol=und_replay", "the archive .*lacks .'function und_replay'."),
     ("function renamed", "--redefine-sym=und_rank=und_ranks", "the archive has .'function und_ranks'."),
     ("symbol added", "--add-symbol=und_state=0,global,object", "the archive has .'A und_state'"),
 ]
 
 
 # The header's names for numbers, reasons, opcodes and the like: each is tried with another value.
-NUMBERED = r"\b(UND_(?!KIND|WANTS|RUNS|RECORD|RULE|LINE|FILE|RAM_|WORK_|FLASH_MAX|FLASH_SECTOR|RANK_NUMBERS)\w+) = (\d\w*)"
+NUMBERED = r"\b(UND_(?!KIND|WANTS|RUNS|RECORD_|RULE|LINE|FILE|RAM_|WORK_|FLASH_MAX|FLASH_SECTOR|RANK_NUMBERS)\w+) = (\d\w*)"
 
 
 def numbered_edits(root):
