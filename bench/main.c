@@ -27,6 +27,8 @@ static const subject subjects[] = {
     {"Read QSPI, pieces of 64", 65535, WITH_TABLE, 64, READ_QSPI, SESSION},
     {"Host Write", 65535, WITH_TABLE, 0, WRITE, HOST},
     {"Host Read", 65535, WITH_TABLE, 0, READ, HOST},
+    {"Replay of a recording", 1048576, WITH_TABLE | WITH_SESSION_CALL, 0, 0, replay_prepare, replay_library,
+     replay_plain, replay_same},
     {"Select of two images", 131072, WITH_TABLE | WITH_ZLIB, 0, 0, slot_prepare, slot_library, slot_plain, slot_same},
     {"Rank of versions", UND_TRAY_MAX, 0, 0, 0, version_prepare, version_library, version_plain, version_same},
     {"Rank of a tray", UND_TRAY_MAX, WITH_CALLS, 0, 0, version_prepare, tray_library, tray_plain, tray_same},
@@ -34,7 +36,8 @@ static const subject subjects[] = {
 
 enum { SUBJECTS = sizeof subjects / sizeof subjects[0] };
 
-static const char *const names[WORKERS] = {"library", "plain C", "table", "zlib", "byte loop", "single calls"};
+static const char *const names[WORKERS] = {"library",   "plain C",      "table",           "zlib",
+                                           "byte loop", "single calls", "one session call"};
 
 static int all_agree(void)
 {

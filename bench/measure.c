@@ -32,6 +32,8 @@ static void equip(worker w)
         plain.copy = plain_copy_by_loop;
     if (w == CALLS)
         plain.rank_tray = plain_rank_tray_by_calls;
+    if (w == SESSION_CALL)
+        plain.replay = replay_by_session;
 }
 
 static double timed(const subject *s, worker w)

@@ -5,10 +5,16 @@
 #include <stddef.h>
 
 /* Who works: the library, plain C, and plain C with other means, which is printed beside it. */
-typedef enum { LIBRARY, PLAIN, TABLE, ZLIB, LOOP, CALLS, WORKERS } worker;
+typedef enum { LIBRARY, PLAIN, TABLE, ZLIB, LOOP, CALLS, SESSION_CALL, WORKERS } worker;
 
 /* What the bits of `beside` mean. */
-enum { WITH_TABLE = 1 << TABLE, WITH_ZLIB = 1 << ZLIB, WITH_LOOP = 1 << LOOP, WITH_CALLS = 1 << CALLS };
+enum {
+    WITH_TABLE = 1 << TABLE,
+    WITH_ZLIB = 1 << ZLIB,
+    WITH_LOOP = 1 << LOOP,
+    WITH_CALLS = 1 << CALLS,
+    WITH_SESSION_CALL = 1 << SESSION_CALL
+};
 
 typedef struct subject {
     const char *name;

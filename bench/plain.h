@@ -19,13 +19,15 @@ enum { TEXT_NUMBERS = 4 };
 /* The bytes of the line. */
 enum { SOH = 0x01, STX = 0x02, ETX = 0x03, ACK = 0x06, NAK = 0x15 };
 
-/* What copies, sums and ranks trays: memcpy, the bitwise CRCs and plain_rank_tray, unless the bench puts others in
-   their place. */
+/* What copies, sums, ranks trays and replays: memcpy, the bitwise CRCs, plain_rank_tray and plain_replay, unless the
+   bench puts others in their place. */
 typedef struct {
     void *(*copy)(void *to, const void *from, size_t count);
     uint16_t (*crc16)(const uint8_t *bytes, size_t count);
     uint32_t (*crc32)(const uint8_t *bytes, size_t count);
     uint32_t (*rank_tray)(const uint8_t *fields, size_t fields_len, uint32_t *ranks, size_t ranks_len);
+    und_replayed (*replay)(const uint8_t *recording, size_t recording_len, uint8_t *ram, size_t ram_len, uint8_t *flash,
+                           size_t flash_len, uint8_t *work, size_t work_len);
 } plain_means;
 
 extern plain_means plain;
@@ -55,5 +57,10 @@ void plain_host_fresh(uint32_t record[8]);
 und_report plain_host_call(uint32_t record[8], uint32_t opcode, const uint8_t *payload, size_t payload_len,
                            const uint8_t *input, size_t input_len, uint8_t *output, size_t output_len, uint8_t *answer,
                            size_t answer_len);
+und_replayed plain_replay(const uint8_t *recording, size_t recording_len, uint8_t *ram, size_t ram_len, uint8_t *flash,
+                          size_t flash_len, uint8_t *work, size_t work_len);
+/* The same bytes, joined before, in one call of the library's session with room for all replies. */
+und_replayed replay_by_session(const uint8_t *recording, size_t recording_len, uint8_t *ram, size_t ram_len,
+                               uint8_t *flash, size_t flash_len, uint8_t *work, size_t work_len);
 
 #endif

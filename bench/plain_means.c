@@ -1,9 +1,9 @@
-/* What plain C copies, sums and ranks trays with. */
+/* What plain C copies, sums, ranks trays and replays with. */
 #include "plain.h"
 
 #include <string.h>
 
-plain_means plain = {memcpy, plain_crc16_bitwise, plain_crc32_bitwise, plain_rank_tray};
+plain_means plain = {memcpy, plain_crc16_bitwise, plain_crc32_bitwise, plain_rank_tray, plain_replay};
 
 /* One byte after the other, as a loop is written without a word on overlap. */
 void *plain_copy_by_loop(void *to, const void *from, size_t count)

@@ -45,4 +45,9 @@ void host_library(const subject *s);
 void host_plain(const subject *s);
 int host_same(void);
 
+void replay_prepare(const subject *s, size_t size);
+void replay_library(const subject *s);
+void replay_plain(const subject *s);
+int replay_same(void);
+
 #endif
