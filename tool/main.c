@@ -21,9 +21,11 @@ static const command commands[] = {
     {"play",
      "rom --kind p|e [--then-uartboot] [options]\n"
      "       undalisho play uartboot [options]\n"
-     "options: --ram BYTES, --flash FILE, --work BYTES, --save-ram FILE,\n"
+     "options: --ram BYTES, --flash FILE, --work BYTES, --save-ram FILE, --record FILE,\n"
      "       --port DEVICE --baud N or --link PATH, --label TEXT, --log FILE, --quiet, --json",
      "is the monitor, on a serial port or a pseudo-terminal", run_play},
+    {"replay", "FILE [--ram BYTES | --ram-from FILE] [--work BYTES] [--flash FLASH] [--json]",
+     "compares a recorded visit with what uartboot answers", run_replay},
     {"load",
      "--kind p|e --port DEVICE CODE [options]\n"
      "options: --raw, --baud N, --wait SECONDS, --label TEXT, --log FILE, --quiet, --json",
@@ -56,8 +58,9 @@ static int print_help(const char *name)
         printf("  undalisho %-6s %s\n", commands[i].name, commands[i].summary);
     printf("\n'undalisho help COMMAND' shows a command's options.\n"
            "With no monitor at hand, begin with 'undalisho demo'.\n"
-           "Exit codes: 0 done, 1 refused, 2 wrong command line, 3 input or output failed; of a line also\n"
-           "4 silent, 5 noise, 6 uartboot runs already, 7 another program uses the port, 8 stopped by the user.\n");
+           "Exit codes: 0 done, 1 refused or different, 2 wrong command line, 3 input or output failed;\n"
+           "of a line also 4 silent, 5 noise, 6 uartboot runs already, 7 another program uses the port,\n"
+           "8 stopped by the user.\n");
     return DONE;
 }
 

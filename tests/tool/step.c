@@ -2,16 +2,10 @@
    (HOW is the number of the error). The steps, in order: open, empty, half, fsync, rename, renamed. The file TRACE is
    told what is done: write, fsync, rename, and folder for the folder's fsync; reply for what is sent to a
    pseudo-terminal. */
-#define _GNU_SOURCE
-#include <dlfcn.h>
-#include <errno.h>
+#include "preloaded.h"
+
 #include <fcntl.h>
-#include <signal.h>
 #include <stdarg.h>
-#include <stdio.h>
-#include <stdlib.h>
-#include <string.h>
-#include <unistd.h>
 
 static int is_step(const char *step)
 {
@@ -19,48 +13,15 @@ static int is_step(const char *step)
     return wanted && strcmp(wanted, step) == 0;
 }
 
-/* Does what is to be done at a step: gives -1, if it comes back. */
-static int halt(void)
-{
-    const char *how = getenv("HOW");
-    if (strcmp(how, "kill") == 0)
-        for (;;)
-            kill(getpid(), SIGKILL);
-    errno = atoi(how);
-    return -1;
-}
-
 static int is_new_name(const char *name)
 {
-    const char *end = strstr(name, ".undalisho-new");
-    return end && end[strlen(".undalisho-new")] == 0;
-}
-
-static const char *name_of(int fd)
-{
-    static char name[4096];
-    char link[64];
-    snprintf(link, sizeof link, "/proc/self/fd/%d", fd);
-    ssize_t length = readlink(link, name, sizeof name - 1);
-    name[length > 0 ? length : 0] = 0;
-    return name;
+    return ends_with(name, ".undalisho-new");
 }
 
 static int is_new(int fd)
 {
     return is_new_name(name_of(fd));
 }
-
-static void note(const char *what)
-{
-    FILE *trace = getenv("TRACE") ? fopen(getenv("TRACE"), "a") : NULL;
-    if (trace) {
-        fprintf(trace, "%s\n", what);
-        fclose(trace);
-    }
-}
-
-#define REAL(type, name, ...) ((type(*)(__VA_ARGS__))dlsym(RTLD_NEXT, name))
 
 int open(const char *name, int flags, ...)
 {

@@ -5,8 +5,8 @@ import subprocess
 
 import bench
 
-COMMANDS = ['slot', 'map', 'order', 'tray', 'offer', 'frame', 'play', 'load', 'demo']
-NEEDED = {'slot': 1, 'map': 1, 'order': 2, 'tray': 1, 'offer': 2, 'frame': 1, 'play': 1, 'load': 1, 'demo': 0}
+COMMANDS = ['slot', 'map', 'order', 'tray', 'offer', 'frame', 'play', 'replay', 'load', 'demo']
+NEEDED = {'slot': 1, 'map': 1, 'order': 2, 'tray': 1, 'offer': 2, 'frame': 1, 'play': 1, 'replay': 1, 'load': 1, 'demo': 0}
 OPTIONAL = ['tray']  # its word may be left out
 
 
@@ -17,6 +17,7 @@ class Usage(bench.Case):
             for command in COMMANDS:
                 self.assertRegex(text, f'undalisho {command} ')
             self.assertRegex(text, '(?s)' + '.*'.join(f'{code} [a-z]+' for code in range(9)))
+            self.assertIn(' 1 refused or different, ', text)
 
     def test_help_for_each_command(self):
         for command in COMMANDS:
@@ -62,7 +63,8 @@ class Usage(bench.Case):
 
     def test_missing_values(self):
         for words in [('slot', 'x', '--header'), ('offer', 'x', 'y', '-o'), ('frame', 'x', '-o', 'y', '--kind'),
-                      ('play', 'rom', '--kind'), ('play', 'uartboot', '--ram'), ('load', 'x', '--port'), ('load', 'x', '--wait')]:
+                      ('play', 'rom', '--kind'), ('play', 'uartboot', '--ram'), ('replay', 'x', '--ram'), ('load', 'x', '--port'),
+                      ('load', 'x', '--wait')]:
             with self.subTest(words=words):
                 self.misused(*words, about=words[-1])
 

@@ -18,6 +18,12 @@ typedef struct {
     size_t at, end;
 } incoming;
 
+/* What the session has replied to it. No reply is longer than the longest answer. */
+typedef struct {
+    uint8_t bytes[UND_WORK_MAX];
+    size_t count;
+} outgoing;
+
 uint32_t monitor_refusal(monitor *m)
 {
     uint8_t none;
@@ -90,23 +96,52 @@ static void send_all(monitor *m, const uint8_t *bytes, size_t length)
     }
 }
 
-/* One turn: its flash is kept, its reply sent, its event told. */
-static int turn(monitor *m, story *told, incoming *in)
+/* One turn: its flash is kept, its event told. */
+static int turn(monitor *m, story *told, incoming *in, outgoing *out)
 {
-    uint8_t reply[PIECE];
     uint32_t before[UND_RECORD_WORDS];
+    const uint8_t *taken = in->bytes + in->at;
+    uint8_t *reply = out->bytes + out->count;
     memcpy(before, m->session.record, sizeof before);
-    und_report r = session_turn(&m->session, in->bytes + in->at, in->end - in->at, reply, sizeof reply);
+    und_report r = session_turn(&m->session, taken, in->end - in->at, reply, sizeof out->bytes - out->count);
     if (r.number != 0)
         return refuse(r.number, "in the middle of a session");
-    const uint8_t *taken = in->bytes + in->at;
     int code = phase_of(before).part != phase_of(m->session.record).part ? keep_flash(m, taken, r.taken) : DONE;
     if (code != DONE)
         return code;
     story_turn(told, before, m->session.record, r.sent ? reply : taken, r.sent + r.taken);
     visit_move(&m->log.visit, r.sent + r.taken);
     in->at += r.taken;
-    send_all(m, reply, r.sent);
+    out->count += r.sent;
+    return DONE;
+}
+
+/* Whether the session still takes what causes the replies, or still replies. */
+static bool goes_on(const monitor *m, const incoming *in, const outgoing *out)
+{
+    if (phase_of(m->session.record).sends)
+        return out->count < sizeof out->bytes;
+    return out->count == 0 && in->at < in->end && !monitor_runs(m);
+}
+
+/* A burst: bytes that the session takes, and then all that it replies to them. The host sees nothing of the replies
+   before the flash is kept, the events of all parts that are whole are told and the burst is recorded, in this order.
+   So log and recording have all that the host has seen, and at the session's end the same bytes; what a stop or a reset
+   keeps from the line is lost, as on any wire. Where the flash cannot be kept, the recording ends before the burst: its
+   command is not carried out. */
+static int burst(monitor *m, story *told, incoming *in)
+{
+    static outgoing out;
+    size_t first = in->at;
+    int code = DONE;
+    out.count = 0;
+    while (code == DONE && goes_on(m, in, &out))
+        code = turn(m, told, in, &out);
+    if (code != DONE)
+        return code;
+    content taken = {in->bytes + first, in->at - first}, replies = {out.bytes, out.count};
+    recorder_add(&m->recorder, &m->session, &m->log, taken, replies);
+    send_all(m, out.bytes, out.count);
     return DONE;
 }
 
@@ -145,9 +180,10 @@ static int play_session(monitor *m, uint32_t kind, incoming *in)
         if (in->at == in->end && !phase_of(m->session.record).sends)
             receive(m, &told, in);
         else
-            code = turn(m, &told, in);
+            code = burst(m, &told, in);
     }
     story_end(&told);
+    recorder_end(&m->recorder, &m->log);
     return code;
 }
 

@@ -5,6 +5,7 @@
 #include "kept.h"
 #include "line.h"
 #include "log.h"
+#include "recorder.h"
 #include "session.h"
 
 typedef struct {
@@ -15,6 +16,7 @@ typedef struct {
     event_log log;
     kept_file flash_file; /* path NULL: the flash lives in memory alone */
     content flash_kept;   /* what the file has */
+    recorder recorder;
 } monitor;
 
 /* Whether the library takes memories of these lengths: 0, or the number of its refusal. */

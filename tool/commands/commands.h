@@ -9,6 +9,7 @@ int run_tray(int count, char **words);
 int run_offer(int count, char **words);
 int run_frame(int count, char **words);
 int run_play(int count, char **words);
+int run_replay(int count, char **words);
 int run_load(int count, char **words);
 int run_demo(int count, char **words);
 

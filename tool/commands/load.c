@@ -101,5 +101,5 @@ int run_load(int count, char **words)
         line_close(&l.line);
     }
     log_close(&l.log);
-    return code == DONE && l.log.failed ? FAILED : code;
+    return log_exit(&l.log, code);
 }

@@ -76,14 +76,19 @@ static const option *find_option(const option *options, const char *word, const 
     return NULL;
 }
 
+bool read_option_number(const char *name, const char *word, unsigned long *number)
+{
+    if (read_number(word, number))
+        return true;
+    misuse("%s wants a number (decimal, or hexadecimal after 0x), not '%s'", name, word);
+    return false;
+}
+
 static bool set_option(const option *o, const char *value)
 {
-    if (o->kind == WORD)
-        *(const char **)o->value = value;
-    else if (!read_number(value, o->value)) {
-        misuse("%s wants a number (decimal, or hexadecimal after 0x), not '%s'", o->name, value);
-        return false;
-    }
+    if (o->kind == NUMBER)
+        return read_option_number(o->name, value, o->value);
+    *(const char **)o->value = value;
     return true;
 }
 

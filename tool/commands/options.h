@@ -33,6 +33,9 @@ int misuse(const char *format, ...) LIKE_PRINTF(1, 2);
 /* The command that is being run, for its usage line. */
 extern const command *current_command;
 
+/* Reads an option's number; says so where it is none. */
+bool read_option_number(const char *name, const char *word, unsigned long *number);
+
 /* Whether a port can have this baud rate; says so if not. */
 bool is_baud(unsigned long baud);
 

@@ -1,19 +1,17 @@
 /* undalisho play: the program is the monitor, until code runs. */
 #include "commands.h"
 #include "exits.h"
-#include "memory.h"
+#include "link.h"
+#include "memories.h"
 #include "monitor.h"
 #include "openings.h"
 #include "options.h"
+#include "recording.h"
 #include "say.h"
 #include "signals.h"
 
 #include <errno.h>
 #include <string.h>
-#include <sys/stat.h>
-#include <unistd.h>
-
-enum { USUAL_FLASH = 1048576 };
 
 typedef struct {
     const char *kind, *flash, *save_ram, *port, *link;
@@ -23,13 +21,21 @@ typedef struct {
 static bool read_play_options(int count, char **words, play_options *o, monitor *m)
 {
     const option options[] = {
-        {"--kind", WORD, &o->kind},    {"--then-uartboot", FLAG, &m->then_uartboot},
-        {"--ram", NUMBER, &o->ram},    {"--flash", WORD, &o->flash},
-        {"--work", NUMBER, &o->work},  {"--save-ram", WORD, &o->save_ram},
-        {"--port", WORD, &o->port},    {"--baud", NUMBER, &o->baud},
-        {"--link", WORD, &o->link},    {"--label", WORD, &m->log.visit.label},
-        {"--log", WORD, &m->log.path}, {"--quiet", FLAG, &m->log.quiet},
-        {"--json", FLAG, &say_json},   {NULL, FLAG, NULL},
+        {"--kind", WORD, &o->kind},
+        {"--then-uartboot", FLAG, &m->then_uartboot},
+        {"--ram", NUMBER, &o->ram},
+        {"--flash", WORD, &o->flash},
+        {"--work", NUMBER, &o->work},
+        {"--save-ram", WORD, &o->save_ram},
+        {"--port", WORD, &o->port},
+        {"--baud", NUMBER, &o->baud},
+        {"--link", WORD, &o->link},
+        {"--label", WORD, &m->log.visit.label},
+        {"--log", WORD, &m->log.path},
+        {"--quiet", FLAG, &m->log.quiet},
+        {"--json", FLAG, &say_json},
+        {"--record", WORD, &m->recorder.path},
+        {NULL, FLAG, NULL},
     };
     *o = (play_options){.ram = UND_RAM_MAX, .work = UND_WORK_MAX, .baud = USUAL_BAUD};
     return read_options(count, words, options, 1, 1) == 1;
@@ -49,6 +55,10 @@ static bool is_sound(const char *what, const play_options *o, monitor *m)
         misuse("--kind and --then-uartboot go with 'play rom'");
         return false;
     }
+    if (rom && m->recorder.path && !m->then_uartboot) {
+        misuse("--record goes with uartboot: 'play uartboot', or 'play rom' with --then-uartboot");
+        return false;
+    }
     if (!is_baud(o->baud))
         return false;
     if (o->port && o->link) {
@@ -56,19 +66,6 @@ static bool is_sound(const char *what, const play_options *o, monitor *m)
         return false;
     }
     return true;
-}
-
-static content filled(size_t length, int byte)
-{
-    content c = {memory_of(length), length};
-    memset(c.bytes, byte, length);
-    return c;
-}
-
-/* `length` zeros; where that is more than `most`, `most` + 1, which the library refuses as well. */
-static content zeros(unsigned long length, size_t most)
-{
-    return filled(length > most ? most + 1 : length, 0);
 }
 
 /* The flash: the file's bytes, or blank ones. */
@@ -83,8 +80,7 @@ static int lend_flash(monitor *m, const play_options *o)
         return fail_errno("name a file with the flash's bytes that you may write to, in a folder that you may write to",
                           "%s cannot be opened", o->flash);
     }
-    m->flash_kept = filled(s->flash.length, 0);
-    memcpy(m->flash_kept.bytes, s->flash.bytes, s->flash.length);
+    m->flash_kept = copy_of(s->flash);
     return DONE;
 }
 
@@ -102,31 +98,13 @@ static int lend_memories(monitor *m, const play_options *o)
     return code;
 }
 
-/* Points a link at the pseudo-terminal. An older link to one, or to nothing, is replaced; any other file stays. */
-static bool make_link(const char *path, const char *target)
-{
-    struct stat link, there;
-    bool is_link = lstat(path, &link) == 0 && S_ISLNK(link.st_mode);
-    if (is_link && (stat(path, &there) != 0 || S_ISCHR(there.st_mode)))
-        unlink(path);
-    return symlink(target, path) == 0;
-}
-
-/* Removes the link, unless another program has taken it over. */
-static void remove_link(const char *path, const char *target)
-{
-    char there[256] = {0};
-    if (path && readlink(path, there, sizeof there - 1) > 0 && strcmp(there, target) == 0)
-        unlink(path);
-}
-
 static int open_line(monitor *m, const play_options *o)
 {
     if (o->port)
         return open_port(&m->line, o->port, o->baud);
     if (!line_make(&m->line))
         return fail_errno("use --port DEVICE", "a pseudo-terminal cannot be made");
-    if (o->link && !make_link(o->link, m->line.path))
+    if (o->link && !link_make(o->link, m->line.path))
         return fail_errno("give --link a path that is free", "%s cannot be made", o->link);
     return DONE;
 }
@@ -147,15 +125,67 @@ static void announce(monitor *m, const char *what)
                  m->session.flash.length);
 }
 
+/* The files of a player, those that it makes beside a recording included. */
+static bool files_are_separate(const monitor *m, const play_options *o)
+{
+    const char *record = m->recorder.path;
+    text ram = {0}, work = {0}, flash = {0};
+    if (record) {
+        ram = recorded_ram(record);
+        work = recorded_work(record);
+        flash = recorded_flash(record);
+    }
+    const file_use uses[] = {
+        {"--flash", o->flash, true},
+        {"--log", m->log.path, true},
+        {"--save-ram", o->save_ram, true},
+        {"--port", o->port, false},
+        {"--link", o->link, true},
+        {"--record", record, true},
+        {"the RAM of --record", ram.chars, true},
+        {"the work buffer of --record", work.chars, true},
+        {"the flash of --record", flash.chars, true},
+    };
+    bool separate = are_separate(uses, sizeof uses / sizeof *uses);
+    text_free(&ram);
+    text_free(&work);
+    text_free(&flash);
+    return separate;
+}
+
+/* Says, for the reason in errno, why no recording can be made. `verb` is what another player does with the file. */
+static int refuse_record(const char *path, const char *verb)
+{
+    struct stat there;
+    if (!*path)
+        return fail("give --record the name of a file", "the name after --record is missing");
+    if (errno == EBUSY)
+        return fail("end the other player, or give --record another file", "another player %s %s", verb, path);
+    if (errno == EEXIST)
+        return fail("name another file, or remove it", "%s is no recording", path);
+    if (errno == EINVAL && stat(path, &there) == 0)
+        return fail("give --record the name of a file", "%s is %s", path,
+                    S_ISDIR(there.st_mode) ? "a folder" : "no plain file");
+    return fail_errno("give --record a file in a folder that you may write to", "%s cannot be written", path);
+}
+
+/* Gives DONE where a recording may be made, or none is wanted. From then on no other player records there. */
+static int open_recorder(recorder *r)
+{
+    if (!r->path)
+        return DONE;
+    if (!recorder_open(r))
+        return refuse_record(r->path, "records in");
+    return can_start_file(r->path) && may_record_in(r->path) ? DONE : refuse_record(r->path, "uses");
+}
+
 /* Opens all that a monitor needs. Gives DONE, or the exit code after it has said what is wrong. */
 static int prepare(monitor *m, const play_options *o)
 {
-    const file_use uses[] = {
-        {"--flash", o->flash, true}, {"--log", m->log.path, true}, {"--save-ram", o->save_ram, true},
-        {"--port", o->port, false},  {"--link", o->link, true},
-    };
-    if (!are_separate(uses, sizeof uses / sizeof *uses))
+    if (!files_are_separate(m, o))
         return MISUSED;
+    const char *others[MOST_OTHERS] = {o->flash, m->log.path, o->save_ram, o->port, o->link};
+    memcpy(m->recorder.others, others, sizeof others);
     visit *v = &m->log.visit;
     int code = lend_memories(m, o);
     v->port = o->port;
@@ -165,6 +195,8 @@ static int prepare(monitor *m, const play_options *o)
     v->content = m->session.flash;
     if (code == DONE)
         code = catch_signals(true);
+    if (code == DONE)
+        code = open_recorder(&m->recorder);
     if (code == DONE)
         code = open_log(&m->log);
     return code == DONE ? open_line(m, o) : code;
@@ -191,18 +223,22 @@ int run_play(int count, char **words)
     if (!read_play_options(count, words, &o, &m) || !is_sound(words[0], &o, &m))
         return MISUSED;
     int code = prepare(&m, &o);
-    if (code != DONE)
+    if (code != DONE) {
+        recorder_close(&m.recorder);
         return code;
+    }
     announce(&m, words[0]);
     code = monitor_play(&m);
     int saved = save_ram(&m, &o);
     if (code == DONE && saved == DONE)
         tell_end(&m);
-    remove_link(o.link, m.line.path);
+    if (o.link)
+        link_remove(o.link, m.line.path);
     line_close(&m.line);
     log_close(&m.log);
     kept_close(&m.flash_file);
+    recorder_close(&m.recorder);
     if (code == DONE)
         code = saved;
-    return code == DONE && m.log.failed ? FAILED : code;
+    return log_exit(&m.log, code);
 }

@@ -4,7 +4,7 @@
 
 enum {
     DONE = 0,     /* what was asked for is done */
-    REFUSED = 1,  /* the library, or the chip, has refused it, or a file is not what it has to be */
+    REFUSED = 1,  /* the library or the chip has refused it, a file is not what it has to be, or a visit differs */
     MISUSED = 2,  /* the command line is wrong */
     FAILED = 3,   /* a file, the terminal or the line failed */
     SILENT = 4,   /* nothing came where something was due */

@@ -1,5 +1,6 @@
 #include "files.h"
 
+#include "lock.h"
 #include "memory.h"
 #include "paths.h"
 #include "replace.h"
@@ -140,22 +141,81 @@ bool is_same_file(const char *a, const char *b)
     return same;
 }
 
-bool write_file(const char *path, const uint8_t *bytes, size_t length)
+char *place_of(const char *path)
 {
     struct stat there;
     bool exists = stat(path, &there) == 0;
-    if (!exists && lstat(path, &there) == 0) {
-        errno = ENOENT; /* a link to nowhere */
-        return false;
-    }
-    if (exists && !S_ISREG(there.st_mode))
-        return write_in_place(path, bytes, length);
-    char *real = exists ? realpath(path, NULL) : NULL;
-    int fd = replace_file(real ? real : path, exists ? &there : NULL, bytes, length);
+    if (exists && S_ISREG(there.st_mode))
+        return realpath(path, NULL);
+    if (!exists && lstat(path, &there) != 0)
+        return *path ? strdup(path) : NULL;
+    errno = exists ? EINVAL : ENOENT;
+    return NULL;
+}
+
+static bool find_place(file_place *p, const char *path)
+{
+    p->path = place_of(path);
+    p->exists = p->path && stat(p->path, &p->old) == 0;
+    return p->path;
+}
+
+void free_place(file_place *p)
+{
     int reason = errno;
-    free(real);
+    free(p->path);
+    p->path = NULL;
+    errno = reason;
+}
+
+bool clear_place(file_place *p, const char *path)
+{
+    bool cleared = find_place(p, path) && (!p->exists || unlink(p->path) == 0);
+    if (!cleared)
+        free_place(p);
+    return cleared;
+}
+
+int fill_place(file_place *p, const uint8_t *bytes, size_t length)
+{
+    int fd = replace_file(p->path, p->exists ? &p->old : NULL, bytes, length);
+    free_place(p);
+    return fd;
+}
+
+int start_file(const char *path, const uint8_t *bytes, size_t length)
+{
+    file_place p;
+    return find_place(&p, path) ? fill_place(&p, bytes, length) : -1;
+}
+
+/* A file that may not be written to may be replaced all the same. */
+static bool is_locked(const char *place)
+{
+    int fd = open_locked(place, O_RDWR, 0);
+    bool locked = fd < 0 && errno == EBUSY;
     if (fd >= 0)
         close(fd);
+    return locked;
+}
+
+bool can_start_file(const char *path)
+{
+    char *place = place_of(path);
+    bool can = place && !is_locked(place) && can_replace(place);
+    int reason = errno;
+    free(place);
     errno = reason;
+    return can;
+}
+
+bool write_file(const char *path, const uint8_t *bytes, size_t length)
+{
+    struct stat there;
+    if (stat(path, &there) == 0 && !S_ISREG(there.st_mode))
+        return write_in_place(path, bytes, length);
+    int fd = start_file(path, bytes, length);
+    if (fd >= 0)
+        close(fd);
     return fd >= 0;
 }

@@ -2,7 +2,6 @@
 
 #include <errno.h>
 #include <fcntl.h>
-#include <stdbool.h>
 #include <sys/stat.h>
 #include <unistd.h>
 
@@ -16,8 +15,7 @@ static bool lock_whole(int fd)
     return false;
 }
 
-/* Whether the path still means the open file: another program may have replaced it before it was locked. */
-static bool is_named(int fd, const char *path)
+bool is_named(int fd, const char *path)
 {
     struct stat open_one, named;
     return fstat(fd, &open_one) == 0 && stat(path, &named) == 0 && open_one.st_ino == named.st_ino &&
@@ -31,6 +29,7 @@ int open_locked(const char *path, int flags, mode_t mode)
         if (fd < 0)
             return -1;
         bool locked = lock_whole(fd);
+        /* another program may have replaced it before it was locked */
         if (locked && is_named(fd, path))
             return fd;
         int reason = errno;

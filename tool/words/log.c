@@ -96,13 +96,21 @@ static void add_for_machines(text *t, const event *e)
     text_add(t, "%s}\n", e->fields ? e->fields->chars : "");
 }
 
+static bool is_full(int reason)
+{
+    return reason == ENOSPC || reason == EDQUOT || reason == EFBIG;
+}
+
+static void say_loss(const char *what, const char *where, int reason, const char *next)
+{
+    fprintf(stderr, "undalisho: the %s cannot be written to %s: %s\n  next: %s; the session goes on without it\n", what,
+            where, strerror(reason), next);
+}
+
 static void tell_failure(event_log *l, const char *where)
 {
     if (!l->failed && !signals_stop())
-        fprintf(
-            stderr,
-            "undalisho: the log cannot be written to %s: %s\n  next: make room there; the session goes on without it\n",
-            where, strerror(errno));
+        say_loss("log", where, errno, "make room there");
     l->failed = l->failed || !signals_stop();
 }
 
@@ -120,7 +128,7 @@ void log_event(event_log *l, const event *e)
         add_for_machines(&t, e);
     else
         add_for_people(&t, e);
-    if (!l->quiet && (fflush(stdout) != 0 || !outlet_write(&l->outlet, t.chars, t.length))) {
+    if ((!l->quiet || e->loud) && (fflush(stdout) != 0 || !outlet_write(&l->outlet, t.chars, t.length))) {
         l->quiet = true;
         tell_failure(l, "standard output");
     }
@@ -142,6 +150,29 @@ void log_note(event_log *l, const char *name, const char *path, const char *form
     text_free(&words);
 }
 
+void log_gone(event_log *l, const char *name, const char *what, const char *path)
+{
+    text words = {0};
+    text_add(&words, "the %s is no longer in %s: another program has removed or replaced it", what, path);
+    fprintf(stderr, "undalisho: %s\n  next: name a file that nobody else changes, and play again\n", words.chars);
+    l->lost = true;
+    log_note(l, name, path, "%s", words.chars);
+    text_free(&words);
+}
+
+void log_loss(event_log *l, const char *name, const char *what, const char *path)
+{
+    int reason = errno;
+    say_loss(what, path, reason, is_full(reason) ? "make room there" : "name another file");
+    l->lost = true;
+    log_note(l, name, path, "the %s cannot be written to %s: %s; it ends here", what, path, strerror(reason));
+}
+
+int log_exit(const event_log *l, int code)
+{
+    return code == DONE && (l->failed || l->lost) ? FAILED : code;
+}
+
 void log_begin(event_log *l, const char *name, const char *path, const char *words)
 {
     text more = {0}, fields = {0};
@@ -160,7 +191,7 @@ static void log_last(event_log *l, event last, const char *result)
         log_begin(l, "begin", NULL, "begin");
     visit_add_end(&l->visit, result, &more, &fields);
     if (!last.said)
-        text_add(&fields, ",\"exit\":%d", l->failed ? FAILED : DONE);
+        text_add(&fields, ",\"exit\":%d", log_exit(l, DONE));
     last.more = &more;
     last.fields = &fields;
     log_event(l, &last);

@@ -22,6 +22,7 @@ typedef struct {
     const text *more;   /* what people read after the words, else NULL */
     const text *fields; /* the same as JSON's names and values, each with a comma before it, else NULL */
     const saying *said; /* an ending that the program says, else NULL */
+    bool loud;          /* for the terminal, even with --quiet */
 } event;
 
 typedef struct {
@@ -29,6 +30,7 @@ typedef struct {
     int fd;
     bool quiet, json;
     bool failed; /* a line could not be written; said once */
+    bool lost;   /* a recording could not be written, or is gone */
     visit visit; /* that it tells of */
     bool begun;  /* the first event was told */
     outlet outlet;
@@ -41,8 +43,18 @@ void log_event(event_log *l, const event *e);
 /* An event without bytes; `path` may be NULL. */
 void log_note(event_log *l, const char *name, const char *path, const char *format, ...) LIKE_PRINTF(4, 5);
 
+/* Says that a file of the visit cannot be written any more, for the reason in errno. */
+void log_loss(event_log *l, const char *name, const char *what, const char *path);
+
+/* Says that it was written, but its path no longer leads to it. */
+void log_gone(event_log *l, const char *name, const char *what, const char *path);
+
 /* Writes what is left, and closes the log. */
 void log_close(event_log *l);
+
+/* The exit code of a visit that has ended with this one: FAILED where the visit went well, but its log or recording
+   could not be written. */
+int log_exit(const event_log *l, int code);
 
 /* The visit begins: endings that the program says from now on become events too, each the last of the visit. */
 void log_visit(event_log *l);

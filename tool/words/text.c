@@ -85,6 +85,31 @@ void text_add_json(text *t, const char *bytes, size_t count)
     text_add_bytes(t, "\"", 1);
 }
 
+void text_add_json_word(text *t, const char *name, const char *word)
+{
+    text_add(t, ",\"%s\":", name);
+    if (word)
+        text_add_json(t, word, strlen(word));
+    else
+        text_add(t, "null");
+}
+
+void text_add_path(text *t, const char *path)
+{
+    static const char plain[] = "abcdefghijklmnopqrstuvwxyzABCDEFGHIJKLMNOPQRSTUVWXYZ0123456789-_./,:+@%=";
+    text_add(t, "%s", path[0] == '-' ? "./" : "");
+    if (path[0] && path[strspn(path, plain)] == 0) {
+        text_add(t, "%s", path);
+        return;
+    }
+    text_add(t, "'");
+    for (; *path; path++) {
+        bool quote = *path == '\'';
+        text_add_bytes(t, quote ? "'\\''" : path, quote ? 4 : 1);
+    }
+    text_add(t, "'");
+}
+
 void text_add_hex(text *t, const uint8_t *bytes, size_t count, const char *between)
 {
     for (size_t i = 0; i < count; i++)

@@ -24,6 +24,12 @@ void text_add_bytes(text *t, const char *bytes, size_t count);
 /* A string in quotes as JSON has it; control characters, and bytes that are not UTF-8 text, are escaped. */
 void text_add_json(text *t, const char *bytes, size_t count);
 
+/* A name and a string that follow others in an object: ,"name":"word"; null where the word is NULL. */
+void text_add_json_word(text *t, const char *name, const char *word);
+
+/* A path as a shell's command line has it: in quotes where that is needed, and never like an option. */
+void text_add_path(text *t, const char *path);
+
 /* How many bytes the character has that begins a text in UTF-8; 0 where none does. */
 size_t text_character(const uint8_t *bytes, size_t count);
 

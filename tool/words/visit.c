@@ -32,18 +32,9 @@ static void add_date(text *t)
     text_add(t, "%s%.3s:%s", date, zone, zone + 3);
 }
 
-static void add_word(text *fields, const char *name, const char *word)
-{
-    text_add(fields, ",\"%s\":", name);
-    if (word)
-        text_add_json(fields, word, strlen(word));
-    else
-        text_add(fields, "null");
-}
-
 static void add_file(const visit *v, text *words, text *fields)
 {
-    add_word(fields, "file", v->file);
+    text_add_json_word(fields, "file", v->file);
     if (!v->file) {
         text_add(fields, ",\"bytes\":null,\"crc32\":null");
         return;
@@ -61,17 +52,17 @@ void visit_add_begin(const visit *v, text *words, text *fields)
     add_date(&date);
     text_add(words, "; %s, undalisho %s, ", date.chars, VERSION);
     text_add(words, "%s%skind %s, %lu baud", v->port ? v->port : "", v->port ? ", " : "", v->kind, v->baud);
-    add_word(fields, "date", date.chars);
-    add_word(fields, "version", VERSION);
-    add_word(fields, "port", v->port);
-    add_word(fields, "kind", v->kind);
+    text_add_json_word(fields, "date", date.chars);
+    text_add_json_word(fields, "version", VERSION);
+    text_add_json_word(fields, "port", v->port);
+    text_add_json_word(fields, "kind", v->kind);
     text_add(fields, ",\"baud\":%lu", v->baud);
     add_file(v, words, fields);
     if (v->label) {
         text_add(words, ", label ");
         text_add_json(words, v->label, strlen(v->label));
     }
-    add_word(fields, "label", v->label);
+    text_add_json_word(fields, "label", v->label);
     text_free(&date);
 }
 
@@ -80,6 +71,6 @@ void visit_add_end(const visit *v, const char *result, text *words, text *fields
     long long now = milliseconds_now(), all = now - v->begun, moving = now - v->moving;
     unsigned long long rate = v->moved * 1000ULL / (unsigned long long)(moving > 0 ? moving : 1);
     text_add(words, "; result: %s, %.3f seconds, %llu bytes per second", result, (double)all / 1000, rate);
-    add_word(fields, "result", result);
+    text_add_json_word(fields, "result", result);
     text_add(fields, ",\"seconds\":%.3f,\"bytes_per_second\":%llu,\"moved\":%zu", (double)all / 1000, rate, v->moved);
 }

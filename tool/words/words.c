@@ -58,12 +58,20 @@ static const meaning numbers[] = {
     {UND_OUT_OF_FLOW, "the device has sent what is not due",
      "look at cable and baud rate, and whether uartboot runs; reset the monitor, load uartboot again, then send the "
      "command again"},
+    {UND_WRONG_RECORDING_MARK, "a recording begins with BLG, and this does not",
+     "name a recorded visit; if this is one, take another copy of it"},
+    {UND_WRONG_RECORDING_VERSION, "a recording has version 1 after its mark, and this has not",
+     "take another copy; a recording of a later version wants a later version of this program"},
+    {UND_UNKNOWN_ENTRY, "an entry of the recording has an unknown kind",
+     "take another copy: bytes of this one are missing, added or changed, here or in an entry before"},
+    {UND_SHORT_ENTRY, "an entry of the recording is cut short",
+     "take another copy: the end of this one is missing, or the length of an entry was changed"},
 };
 
 /* The limits that are spelled out above. */
 typedef char limits_are_those[UND_WORK_MIN == 64 && UND_WORK_MAX == 65535 && UND_RAM_MAX == 131072 &&
                                       UND_FLASH_SECTOR == 4096 && UND_FLASH_MAX == 4194304 && UND_VERSION_FIELD == 16 &&
-                                      UND_TRAY_MAX == 1024
+                                      UND_TRAY_MAX == 1024 && UND_RECORDING_VERSION == 1
                                   ? 1
                                   : -1];
 
@@ -115,10 +123,8 @@ const meaning *meaning_of(uint32_t number)
 
 void text_add_meaning(text *t, const meaning *m, int code)
 {
-    text_add(t, ",\"words\":");
-    text_add_json(t, m->what, strlen(m->what));
-    text_add(t, ",\"next\":");
-    text_add_json(t, m->next, strlen(m->next));
+    text_add_json_word(t, "words", m->what);
+    text_add_json_word(t, "next", m->next);
     text_add(t, ",\"exit\":%d", code);
 }
 
@@ -150,6 +156,11 @@ bool payload_has(uint32_t opcode, payload_number number)
 void add_count(text *t, size_t count)
 {
     text_add(t, count == 1 ? "1 byte" : "%zu bytes", count);
+}
+
+void add_offset(text *t, size_t offset)
+{
+    text_add(t, "offset %zu (0x%zX)", offset, offset);
 }
 
 /* A number of a payload, by the letter after '@'. */

@@ -34,6 +34,9 @@ bool payload_has(uint32_t opcode, payload_number number);
 /* "1 byte", "2 bytes" */
 void add_count(text *t, size_t count);
 
+/* "offset 41 (0x29)" */
+void add_offset(text *t, size_t offset);
+
 /* What the payload of a command asks for. */
 void add_payload(text *t, uint32_t opcode, const uint8_t *payload, size_t length);
 
