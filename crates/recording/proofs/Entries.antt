@@ -6,13 +6,12 @@ use mathlib.Core.Path.{_≡_, refl, sym, ap, _∙_}
 use mathlib.Core.Bool.{Bool, true, false, cond, not}
 use mathlib.Core.List.{List, [], _∷_, _++_}
 use lib.Dec.{eqb, leb}
-use lib.ListN.{length, drop, length-drop}
-use lib.Seq.{drop-drop}
+use lib.ListN.{length, length-drop}
 use borrow.Author.Tests.{eq-eqb, ne-eqb, eqb-true, eqb-false, leb-true}
 use borrow.Table.Steps.{cases}
 use Rattle.wire.proofs.Tests.{both-true}
 use Rattle.recording.specs.Form.{unknownKind, cutShort, entryHead, kindIn, sizeIn, ownBytes, pastEntry, isKind, isWhole, entryFault}
-use Rattle.recording.specs.Recording.{Entry, Recording, reads, refused, after, entriesAt, entriesOf, faultOf, joined, joinedIn}
+use Rattle.recording.specs.Recording.{Entry, Recording, reads, refused, after, entriesAt, entriesOf, faultOf, joinedIn}
 
 -- the entry that these bytes begin with
 abbrev pub entryIn : List ℕ → Entry

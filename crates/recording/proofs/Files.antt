@@ -7,7 +7,7 @@ use mathlib.Core.Bool.{Bool, true, false, cond, not}
 use mathlib.Core.List.{List}
 use lib.Dec.{eqb, leb}
 use lib.ListN.{length, drop}
-use borrow.Author.Tests.{eq-eqb, eqb-true, eqb-false, leb-true}
+use borrow.Author.Tests.{eq-eqb, eqb-true, leb-true}
 use borrow.Table.Steps.{cases}
 use Rattle.memory.specs.Compare.{isFront}
 use Rattle.numbers.specs.Number.{readAt}

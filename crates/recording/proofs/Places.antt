@@ -3,7 +3,7 @@
 use Prim.Native.Nat.{ℕ, _+_, _-_, _≤_, _<_}
 use native.Mathlib.Omega.{arith}
 use native.Mathlib.Nat.{add-zero}
-use mathlib.Core.Path.{_≡_, refl, sym, ap, _∙_}
+use mathlib.Core.Path.{_≡_, refl, ap, _∙_}
 use mathlib.Core.Bool.{true, false, and-false}
 use mathlib.Core.List.{List, [], _∷_}
 use lib.Dec.{eqb}
@@ -12,7 +12,7 @@ use lib.Seq.{getD-drop, drop-drop}
 use borrow.Author.Tests.{le-leb, lt-leb}
 use Rattle.memory.specs.Compare.{isFront}
 use Rattle.recording.specs.Form.{unknownKind, cutShort, isKind, entryHead, kindIn, sizeIn, pastEntry, entryFault}
-use Rattle.recording.specs.Recording.{reads, entriesAt, entriesOf, faultOf}
+use Rattle.recording.specs.Recording.{reads, entriesAt, entriesOf}
 use Rattle.recording.proofs.Entries.{whole-entry}
 
 -- what is too short has not all bytes of a front

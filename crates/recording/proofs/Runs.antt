@@ -7,7 +7,7 @@ use mathlib.Core.List.{List, [], _∷_, _++_}
 use lib.ListN.{length, getD, take, drop, length-drop}
 use lib.Seq.{drop-cons, length-take-le, take-add, take-at, drop-at, drop-drop, drop-append-le}
 use borrow.Author.Tests.{eq-eqb, ne-eqb}
-use Rattle.recording.specs.Form.{entryHead, kindIn, sizeIn, ownBytes, pastEntry, entryFault}
+use Rattle.recording.specs.Form.{entryHead, sizeIn, pastEntry, entryFault}
 use Rattle.recording.specs.Recording.{entriesOf, faultOf, joinedIn}
 use Rattle.recording.specs.Left.{leftFrom, leftIn, Readable, IsRun, Leaves}
 use Rattle.recording.specs.declared.run.Run.{Run}
@@ -109,13 +109,17 @@ module _ {kind : ℕ} {file : List ℕ} {from entry : ℕ} (f : Finding kind fil
     pub no-bytes : getD file entry 0 ≡ kind → entry + entryHead + size ≤ entry + entryHead → Finding kind file from (entry + entryHead + size)
     no-bytes e h = goes-on (passed-empty kind file entry there (f .readable) e (omega (arith, is)))
 
+-- a run has as many bytes as lie between its places
+pub run-long : (file : List ℕ) (run : Run) → IsRun file run → length (take (run .past - run .at) (drop (run .at) file)) ≡ run .past - run .at
+run-long file run is = length-take-le (run .past - run .at) (drop (run .at) file) (omega (arith, is .readable .inside, length-drop (run .at) file))
+
 -- past some bytes of a run
 module _ (kind : ℕ) (file : List ℕ) (run : Run) (is : IsRun file run) (count : ℕ) (fits : run .at + count ≤ run .past) where
   abbrev own : List ℕ
   own = take (run .past - run .at) (drop (run .at) file)
 
   long : length own ≡ run .past - run .at
-  long = length-take-le (run .past - run .at) (drop (run .at) file) (omega (arith, is .readable .inside, length-drop (run .at) file))
+  long = run-long file run is
 
   pub within-run : run .at + count < run .past → Leaves kind file (run .at + count) (drop count (leftIn kind file run)) (runOf (run .at + count) (run .past))
   within-run h =
@@ -158,10 +162,4 @@ module _ (kind : ℕ) (file : List ℕ) (run : Run) (is : IsRun file run) where
 
   -- the run is the front of what is left
   pub run-shown : take (run .past - run .at) (leftIn kind file run) ≡ take (run .past - run .at) (drop (run .at) file)
-  run-shown =
-      let own = take (run .past - run .at) (drop (run .at) file) in
-      take-at own (leftFrom kind file (run .past)) (run .past - run .at)
-      (length-take-le (run .past - run .at) (drop (run .at) file) (omega (arith, is .readable .inside, length-drop (run .at) file)))
-
-  pub run-long : length (take (run .past - run .at) (drop (run .at) file)) ≡ run .past - run .at
-  run-long = length-take-le (run .past - run .at) (drop (run .at) file) (omega (arith, is .readable .inside, length-drop (run .at) file))
+  run-shown = take-at (take (run .past - run .at) (drop (run .at) file)) (leftFrom kind file (run .past)) (run .past - run .at) (run-long file run is)

@@ -1,7 +1,7 @@
 -- Worked files (rules, 16.2): what is wrong with them, and the joined bytes of both kinds.
 -- Assumes nothing.
 use Prim.Native.Nat.{ℕ}
-use mathlib.Core.List.{List, [], _∷_, _++_}
+use mathlib.Core.List.{List, [], _∷_}
 use lib.ListN.{replicate}
 use Rattle.recording.specs.Form.{hostKind, deviceKind, badMark, badVersion, unknownKind, cutShort}
 use Rattle.recording.specs.Recording.{Recording, faultOf, joinedIn, recordingOf}
@@ -32,7 +32,7 @@ abbrev pub given : Figure → Said
 given f = saidBy (recordingOf (f .file))
 
 -- a file with these entries
-abbrev file : (entries : List ℕ) → List ℕ
+abbrev pub file : (entries : List ℕ) → List ℕ
 file entries = 0x42 ∷ 0x4C ∷ 0x47 ∷ 1 ∷ 0 ∷ entries
 
 abbrev pub figures : List Figure

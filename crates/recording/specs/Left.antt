@@ -1,6 +1,6 @@
 -- What is left of the joined bytes of a kind, for a program that goes through the file: a run of bytes in it, and the entries after the run.
 -- Assumes nothing.
-use Prim.Native.Nat.{ℕ, _+_, _-_, _≤_, _<_}
+use Prim.Native.Nat.{ℕ, _+_, _-_, _≤_}
 use mathlib.Core.Path.{_≡_}
 use mathlib.Core.List.{List, _++_}
 use lib.ListN.{length, take, drop}

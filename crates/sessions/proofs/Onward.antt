@@ -1,9 +1,8 @@
 -- The definition goes on where a call has stopped.
 -- Assumes nothing.
-use Prim.Native.Nat.{ℕ, suc, _+_, _≤_, _<_}
+use Prim.Native.Nat.{ℕ, _+_, _≤_, _<_}
 use native.Mathlib.Omega.{arith}
 use mathlib.Core.Path.{_≡_, refl, sym, ap, _∙_}
-use mathlib.Core.Bool.{true, false}
 use mathlib.Core.List.{List, [], _++_}
 use lib.Dec.{ltb}
 use lib.ListN.{length, take, drop, length-append}
@@ -19,7 +18,7 @@ use Rattle.machine.specs.Uncut.{uncut}
 use Rattle.machine.specs.History.{Event}
 use Rattle.machine.specs.Lawful.{Any, Lawful}
 use Rattle.machine.specs.Session.{Session, sound, accepted, resultOf}
-use Rattle.machine.specs.SessionLaws.{OneByOne, Faithful}
+use Rattle.machine.specs.SessionLaws.{Faithful}
 use Rattle.machine.specs.Listing.{given}
 use Rattle.machine.specs.declared.Record.{Record}
 use Rattle.machine.proofs.Outcomes.{halt-join}
@@ -33,10 +32,10 @@ use Rattle.rom_flow.specs.Flow as receiver
 use Rattle.rom_flow.specs.Due as receiver-due
 use Rattle.uartboot_flow.specs.Flow as device
 use Rattle.uartboot_flow.specs.Due as device-due
-use Rattle.sessions.specs.Kind.{Kind, romP, romE, uartboot, MemoriesOf, StateOf, sessionOf, freshOf, freshRecordOf}
+use Rattle.sessions.specs.Kind.{Kind, romP, romE, uartboot, MemoriesOf, sessionOf, freshOf, freshRecordOf}
 use Rattle.sessions.specs.Definition.{definition}
-use Rattle.sessions.specs.Onward.{Reached, fresh, called, nothing, andThen, onward, Call, Onward, PieceByPiece}
-use Rattle.sessions.proofs.Theorem.{Follows, follows, reaches}
+use Rattle.sessions.specs.Onward.{Reached, fresh, called, nothing, andThen, onward, PieceByPiece}
+use Rattle.sessions.proofs.Theorem.{follows, reaches}
 
 -- a standing of 2 says that an action has its symbols in view; there is no other standing than 1, 2 and 3
 record Chokes (n : Need) (left : ℕ) : Type 0 where

@@ -9,14 +9,14 @@ use mathlib.Core.List.{List, [], _∷_, _++_}
 use lib.Dec.{eqb, ltb}
 use lib.ListN.{length, getD, drop, drop-of-length-le}
 use lib.Seq.{drop-cons}
-use borrow.Author.Tests.{eq-eqb, ne-eqb, ltb-true, ltb-false}
+use borrow.Author.Tests.{ltb-true, ltb-false}
 use borrow.Table.Steps.{cases}
 use Rattle.recording.specs.Form.{deviceKind}
 use Rattle.recording.specs.Left.{leftIn, IsRun, Leaves}
 use Rattle.recording.specs.declared.run.Run.{Run}
 use Rattle.recording.proofs.Runs.{first-left, none-left}
-use Rattle.visit.specs.Compared.{agrees, differs, comparedFrom}
-use Rattle.visit.specs.Held.{isNext, verdictAt, verdictOf, IsHeld, Holds}
+use Rattle.visit.specs.Compared.{differs, comparedFrom}
+use Rattle.visit.specs.Held.{isNext, verdictOf, IsHeld, Holds}
 use Rattle.visit.specs.Replay.{answerOf}
 use Rattle.visit.specs.declared.held.Held.{Held}
 

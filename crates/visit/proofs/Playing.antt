@@ -3,7 +3,7 @@
 use Prim.Native.Nat.{ℕ, _+_, _-_, _≤_, _<_}
 use native.Mathlib.Omega.{arith}
 use mathlib.Core.Path.{_≡_, refl, sym, ap, subst, _∙_}
-use mathlib.Core.List.{List, [], _∷_, _++_}
+use mathlib.Core.List.{List, [], _++_}
 use lib.Dec.{ltb}
 use lib.ListN.{length, take, drop, length-append}
 use lib.Seq.{length-take-le, drop-nil}
@@ -82,7 +82,7 @@ module _ {file : List ℕ} {m₀ : Memories} {session : Record} {mem : Memories}
   one-call = rw by-definition at (piece-by-piece uartboot .calls session mem (g .reached) (leftIn hostKind file host) (host .past - host .at) room)
 
   size : length (take (host .past - host .at) (leftIn hostKind file host)) ≡ host .past - host .at
-  size = ap length (run-shown hostKind file host (g .is-host)) ∙ run-long hostKind file host (g .is-host)
+  size = ap length (run-shown hostKind file host (g .is-host)) ∙ run-long file host (g .is-host)
 
   pub sent-fits : a .report .sent ≤ length (a .reply)
   sent-fits = omega (arith, one-call .sent-within, long)

@@ -8,6 +8,7 @@ use Rattle.memory.specs.Memories.{Memories, memories}
 use Rattle.uartboot_flow.specs.Flow.{greeting}
 use Rattle.sessions.specs.Fakes.{small}
 use Rattle.recording.specs.Form.{cutShort}
+use Rattle.recording.specs.Figures.{file}
 use Rattle.visit.specs.Compared.{agrees, differs}
 use Rattle.visit.specs.Replay.{answerOf, refusedAnswer, replayOf}
 use Rattle.visit.specs.declared.Replayed.{Replayed}
@@ -32,10 +33,6 @@ unfit file answer = record { file = file; lent = memories [] [] []; wanted = rec
 
 abbrev pub given : Figure → Gave
 given f = record { answer = replayOf (f .file) (f .lent) .answer; ram = replayOf (f .file) (f .lent) .memories .ram }
-
--- a file with these entries
-abbrev file : (entries : List ℕ) → List ℕ
-file entries = 0x42 ∷ 0x4C ∷ 0x47 ∷ 1 ∷ 0 ∷ entries
 
 abbrev greets : List ℕ
 greets = greeting 0 ∷ greeting 1 ∷ greeting 2 ∷ greeting 3 ∷ []

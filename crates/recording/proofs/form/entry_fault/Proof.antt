@@ -3,12 +3,8 @@
 use mathlib.Core.Path.{sym, _∙_}
 use borrow.Author.Tests.{not-true, not-false}
 use Rattle.recording.proofs.Places.{fault-kind, fault-short, fault-cut, fault-none}
-use mathlib.Core.Path.{_≡_, sym, _∙_}
-use native.Mathlib.Omega.{arith}
-use lib.ListN.{getD, length, drop, length-drop}
-use lib.Seq.{getD-drop}
-use borrow.Author.Tests.{not-true, not-false, lt-leb, le-leb}
-use Rattle.recording.specs.Form.{isKind, kindIn, entryHead, sizeIn, entryFault}
+use mathlib.Core.Path.{sym, _∙_}
+use borrow.Author.Tests.{not-true, not-false}
 use borrow.Author.Needs.{needs}
 use Rattle.recording.proofs.form.entry_fault.Statement.{statement}
 use Rattle.recording.proofs.form.entry_fault.Tie as tie

@@ -3,7 +3,7 @@
 use Prim.Native.Nat.{_+_, _≤_}
 use Rattle.recording.specs.Form.{entryHead, sizeIn}
 use Prim.Native.Nat.{_-_}
-use mathlib.Core.Path.{_≡_, refl, sym, ap, _∙_}
+use mathlib.Core.Path.{_≡_, sym, ap, _∙_}
 use native.Mathlib.Omega.{arith}
 use lib.ListN.{length, drop}
 use borrow.Author.Needs.{needs}

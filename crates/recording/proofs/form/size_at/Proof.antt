@@ -1,6 +1,5 @@
 -- `recording::form::size_at`: the length is after the kind.
 -- Assumes nothing.
-use mathlib.Core.Path.{sym, _∙_}
 use lib.Seq.{drop-drop}
 use Rattle.numbers.specs.Number.{numberAt}
 use Rattle.recording.specs.Form.{sizeIn}

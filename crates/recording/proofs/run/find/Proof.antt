@@ -4,7 +4,6 @@ use Prim.Native.Nat.{_-_}
 use mathlib.Core.Path.{refl}
 use native.Mathlib.Omega.{arith}
 use lib.ListN.{length}
-use borrow.Author.Needs.{needs}
 use Rattle.recording.proofs.Runs.{Finding, found-none, all-there, found-here, other-kind, no-bytes}
 use Rattle.recording.proofs.run.find.Statement.{statement}
 use Rattle.recording.proofs.run.find.Tie as tie

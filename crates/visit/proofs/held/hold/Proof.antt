@@ -1,6 +1,6 @@
 -- `visit::held::hold`: the verdict from here on is the verdict from the first reply on.
 -- Assumes nothing.
-use Prim.Native.Nat.{_-_, _+_}
+use Prim.Native.Nat.{_-_}
 use mathlib.Core.Path.{_≡_, refl, sym, _∙_}
 use native.Mathlib.Omega.{arith}
 use lib.ListN.{length}

@@ -1,6 +1,5 @@
 -- `visit::held::is_next`: where the run is used up, and where it is not.
 -- Assumes nothing.
-use native.Mathlib.Omega.{arith}
 use Rattle.visit.proofs.Holding.{next-none, next-some}
 use borrow.Author.Needs.{needs}
 use Rattle.visit.proofs.held.is_next.Statement.{statement}

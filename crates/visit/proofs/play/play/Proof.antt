@@ -1,6 +1,5 @@
 -- `visit::play::play`: what is still to come after a call is what was still to come before it, less what it gave.
 -- Assumes nothing.
-use Prim.Native.Nat.{ℕ}
 use mathlib.Core.Path.{refl, sym}
 use lib.Seq.{length-take-le}
 use native.Mathlib.Omega.{arith}
