@@ -1,6 +1,6 @@
 # The library for C and the bench tool. Targets: all, lib (the library alone), demo, install, uninstall, clean, test (all tests),
 # bench (all measurements).
-VERSION := 0.8.0
+VERSION := 0.7.0
 
 PREFIX ?= /usr/local
 INCLUDEDIR = $(PREFIX)/include

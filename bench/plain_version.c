@@ -26,20 +26,6 @@ static int all_zero(const uint8_t *field, size_t at)
     return at == 16;
 }
 
-/* Reads what follows a field's numbers: the ending of a test build or none, and then only 00. Gives the last number of
-   the rank, or -1 where that is malformed. */
-static int32_t ending_at(const uint8_t *field, size_t at)
-{
-    int32_t number = UND_RANK_RELEASE;
-    if (at < 16 && field[at] == '-') {
-        if (at + 1 == 16 || field[at + 1] != 't')
-            return -1;
-        at += 2;
-        number = decimal_at(field, &at);
-    }
-    return number > 0 && all_zero(field, at) ? number : -1;
-}
-
 /* Reads a field's numbers into a rank of zeros. Gives 0, or 61 where the text is malformed. */
 static uint32_t read_rank(const uint8_t *field, uint32_t *rank)
 {
@@ -49,11 +35,8 @@ static uint32_t read_rank(const uint8_t *field, uint32_t *rank)
         if (value < 0)
             return UND_MALFORMED_VERSION;
         rank[place] = (uint32_t)value;
-        if (at == 16 || field[at] != '.') {
-            int32_t last = ending_at(field, at);
-            rank[TEXT_NUMBERS] = (uint32_t)last;
-            return last < 0 ? UND_MALFORMED_VERSION : 0;
-        }
+        if (at == 16 || field[at] != '.')
+            return all_zero(field, at) ? 0 : UND_MALFORMED_VERSION;
         at++;
     }
     return UND_MALFORMED_VERSION;

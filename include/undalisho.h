@@ -80,17 +80,14 @@ enum {
 
 /* ---- Versions ----
  *
- * A version field has 16 bytes: a text, then only 00 up to the end. The text has one to four decimal numbers from 0 to
- * 65535 with dots between them. That of a test build then has an ending, -t and a decimal number from 1 to 65535. No
- * number has a leading zero; a lone 0 is good, except in an ending. "1.10", "65535.65535.6553" and "1.10-t3" are good.
- * "", "01.2", "1..2", "1.65536", "-t3", "1.10-", "1.10-t", "1.10-t0", "1.10-t03", "1.10-t65536", "1.10-T3", "1.10-t3x"
- * and "1.10-t3-t4" are malformed.
+ * A version field has 16 bytes: a text of one to four decimal numbers from 0 to 65535 with dots between them, then only
+ * 00 up to the end. No number has a leading zero; a lone 0 is good. "1.10" and "65535.65535.6553" are good; "", "01.2",
+ * "1..2" and "1.65536" are malformed.
  */
 
 enum {
     UND_VERSION_FIELD = 16,               /* bytes of a field */
-    UND_RANK_NUMBERS = 5,                 /* numbers of a rank */
-    UND_RANK_RELEASE = 65536,             /* the last of them, where the version is no test build */
+    UND_RANK_NUMBERS = 4,                 /* numbers of a rank */
     UND_TRAY_MAX = 1024,                  /* fields of a tray: at most this */
     UND_TRAY_ENTRY = UND_RANK_NUMBERS + 1 /* numbers of an entry of a tray */
 };
@@ -100,8 +97,7 @@ typedef struct {
     uint32_t rank[UND_RANK_NUMBERS];
 } und_ranked;
 
-/* The rank of a version: its one to four numbers, 0 for each that is missing, and then its test number, or 65536 for a
- * release. That is above every test number. 1.10-t3 has the rank 1, 10, 0, 0, 3, and 1.10 has 1, 10, 0, 0, 65536.
+/* The numbers of a version, missing ones 0.
  *
  * Number:  0
  *          61  the text is malformed, or field_len is not 16
@@ -115,8 +111,7 @@ typedef struct {
 } und_ordered;
 
 /* The order of two versions, number by number: -1 where a is lower than b, 0 where they are equal, 1 where a is higher.
- * 1.9 is lower than 1.10, and equal to 1.9.0. A test build comes before its release and after every lower one: 1.9,
- * 1.10-t3, 1.10-t12 and 1.10 ascend.
+ * 1.9 is lower than 1.10, and equal to 1.9.0.
  *
  * Number:  0
  *          61  one of the texts is malformed, or one of the lengths is not 16

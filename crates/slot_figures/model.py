@@ -10,21 +10,26 @@ import zlib
 
 # ---- the rules
 
-# Every text of a decimal number 0 to 65,535 with no leading zero, and what follows the hyphen of every test build.
-NUMBERS = {b"%d" % n: n for n in range(65536)}
-TESTS = {b"t%d" % n: n for n in range(1, 65536)}
-RELEASE = 65536
-
 
 def rank(field):
-    """(number, five numbers). One to four decimal numbers 0 to 65,535, dots between, no leading zero; for a test build then -t and a
-    number 1 to 65,535, no leading zero; then only 00 to byte 16. The fifth number is that of the test build, or 65,536 for a release."""
-    text, hyphen, test = field.rstrip(b"\x00").partition(b"-")
+    """(number, four numbers). One to four decimal numbers 0 to 65,535, dots between, no leading zero, then only 00 to byte 16."""
+    bad = (61, [0, 0, 0, 0])
+    if len(field) != 16:
+        return bad
+    text = field.rstrip(b"\x00")
     words = text.split(b".")
-    if len(field) != 16 or len(words) > 4 or any(word not in NUMBERS for word in words) or (hyphen and test not in TESTS):
-        return 61, [0, 0, 0, 0, 0]
-    missing = [0] * (4 - len(words))
-    return 0, [NUMBERS[word] for word in words] + missing + [TESTS[test] if hyphen else RELEASE]
+    if not 1 <= len(words) <= 4:
+        return bad
+    numbers = []
+    for word in words:
+        if word == b"" or any(b not in b"0123456789" for b in word):
+            return bad
+        if len(word) > 1 and word[:1] == b"0":
+            return bad
+        if int(word) > 65535:
+            return bad
+        numbers.append(int(word))
+    return 0, numbers + [0] * (4 - len(numbers))
 
 
 def order(a, b):
@@ -105,31 +110,10 @@ def code_of(file):
 # ---- the figures' inputs
 
 RANKS = """1.9 1.10 1.9.0 01.2 _ 65535.65535.6553 1.65536 1..2 0 0.0.0.0 00 1. .1 1.2.3.4 1.2.3.4.5 1.2.3.4. 1.2_3 1#.2 -1 +1 1.2x
-65535 65536 99999999999 1234567890123456 1.2.3.4.5.6.7.8. 1.~ 1/2 1:2
-1.10-t3 1.10.0-t3 1.10.0.0-t3 1-t1 0-t1 0.0.0.0-t1 1.10-t1 1.10-t9 1.10-t10 1.10-t12 1.10-t65534 1.10-t65535 65535-t65535
-1.2.3.4-t5 1.2.3.4-t65535 65535.65535.6-t1 65535.655-t65535 65535.6553-t6553 1.2.3.45-t65535
-1.10- 1.10-t 1.10-t0 1.10-t00 1.10-t03 1.10-t0003 1.10-t65536 1.10-t70000 1.10-t99999 1.10-t100000
-1.10-t4294967297 1-t1234567890123 1.10-T3 1.10-s3 1.10-u3 1.10-3 1.10-3t 1.10-tt3 1.10-t3t 1.10-t3x 1.10-t3. 1.10-t3-
-1.10-t3# 1.10-t3~ 1.10-t3-t4 1.10-t3t4 1.10-t3-4 1.10-tx 1.10-t/ 1.10-t: 1.10-t3/ 1.10-t3: 1.10-t#3 1.10-#t3 1.10#-t3
-- -t -t3 .-t3 1.-t3 1.10.-t3 1..10-t3 .10-t3 01.10-t3 1.010-t3 1.65536-t3 65536-t3 1.x-t3 1x-t3 #1.10-t3 ~-t3
-1-2 1-2.3 1-2-t3 1-t3.4 1.2-t3.4 1.2-3 1.2t3 1.2.t3 1.2/t3 1.2+t3 1.2~t3 1.2--t3 1.2-t-3 1.2-t+3 1.2-t--3 --t3 t3 1t3-t4
-1.2-t3_4 1.2-t3__________ 1.2-t3_________4 1.2-t3_________~ 1.2-t_3 1.2-_t3 1.2_-t3 _1.2-t3 _-t3 -t3_1.2
-1.2.3.4.-t5 1.2.3.4.5-t6 1.2.3.4.5-t 1.2.3.4-t 1.2.3.4-t0 1.2.3.4-t5.6 1.2.3.4-5 65535.65535.65-t 65535.65535.655- 65535.65535.6-T1
-65535.65535.6-t0 65535.65535.-t12 65535.655-t65536 65535.655-t06553""".replace("\n", " ").split(" ")
+65535 65536 99999999999 1234567890123456 1.2.3.4.5.6.7.8. 1.~ 1/2 1:2""".replace("\n", " ").split(" ")
 # fields of 0, 15 and 17 bytes, whose texts are good but for that
-LENGTHS = ["", "65535.65535.655", "65535.65535.65535", "1.2____________", "1.2______________", "65535.6553.6-t1", "65535.65535.65-t1",
-           "65535.65535.6-t12", "1.2-t3_________", "1.2-t3___________"]
-ORDERS = """1.9 1.10|1.10 1.9|1.9 1.9.0|2 1.65535.65535.1|1.2.3.4 1.2.3.5|1.2.3.5 1.2.3.4|01.2 1.2|1.2 01.2|1. _
-1.9 1.10-t1|1.10-t1 1.9|1.10-t3 1.10|1.10 1.10-t3|1.10-t3 1.10-t12|1.10-t12 1.10-t3|1.10-t9 1.10-t10|1.10-t10 1.10-t9
-1.10.0-t3 1.10-t3|1.10-t3 1.10.0-t3|1.10-t3 1.10-t3|1.10.0.0-t3 1.10.0|1.10.0 1.10.0.0-t3
-1.9.65535.65535 1.10-t3|1.10-t3 1.9.65535.65535|1.9.65535 1.10-t1|1.10-t1 1.9.65535|1.10 1.10-t65535|1.10-t65535 1.10
-1.10 1.10.0.1-t1|1.10.0.1-t1 1.10|1.10-t65535 1.10.0.1-t1|1.10.0.1-t1 1.10-t65535|1.10-t65535 1.11-t1|1.11-t1 1.10-t65535
-1.9-t65535 1.10|1.10 1.9-t65535|1.2.3.4-t5 1.2.3.4|1.2.3.4 1.2.3.4-t5|1.2.3.4-t5 1.2.3.5-t4|1.2.3.5-t4 1.2.3.4-t5
-0-t1 0|0 0-t1|0-t1 0-t2|0-t2 0-t1|0-t65535 0.0.0.1-t1|65535-t1 65535|65535 65535-t1
-1.10-t 1.10|1.10 1.10-t|1.10-t0 1.10-t1|1.10-t1 1.10-t0|1.10-t03 1.10-t3|1.10-t3 1.10-t03|1.10-t65536 1.10|1.10 1.10-t65536
-1.10-T3 1.10-t3|1.10-t3 1.10-T3|1.10-t3x 1.10-t3|1.10-t3 1.10-t3x|-t3 1.10|1.10 -t3|1.-t3 1-t3|1-t3 1.-t3
-1.10-t3-t4 1.10-t4|1.10-t4 1.10-t3-t4|65535.65535.65-t 65535.65535.65|65535.65535.65 65535.65535.65-t
-1.2-t3_4 1.2-t3|1.2-t3 1.2-t3_4|1.10-t 1.10-t|-t3 -t3|1.10-t0 _|01.10-t3 1.10-t""".replace("\n", "|").split("|")
+LENGTHS = ["", "65535.65535.655", "65535.65535.65535", "1.2____________", "1.2______________"]
+ORDERS = """1.9 1.10|1.10 1.9|1.9 1.9.0|2 1.65535.65535.1|1.2.3.4 1.2.3.5|1.2.3.5 1.2.3.4|01.2 1.2|1.2 01.2|1. _""".split("|")
 FAR = 0xFFFFFFFF
 MAX = 0xFFFFFFFFFFFFFFFF
 
@@ -252,40 +236,6 @@ OFFERS = [
     (inst("1.9", 0), cand("1.10")),
     (inst("1.9"), cand("1.10", 0)),
     (inst("1.9", 0), cand("1.10", 0)),
-    # a release is installed, and a test build of it, of a higher one and of a lower one is offered; then each turned round
-    (inst("1.10"), cand("1.10-t3")),
-    (inst("1.10"), cand("1.10-t65535")),
-    (inst("1.10"), cand("1.11-t1")),
-    (inst("1.10"), cand("1.9-t3")),
-    (inst("1.10-t3"), cand("1.10")),
-    (inst("1.10-t65535"), cand("1.10")),
-    (inst("1.11-t1"), cand("1.10")),
-    (inst("1.9-t3"), cand("1.10")),
-    (inst("1.9.65535.65535"), cand("1.10-t3", 96)),
-    (inst("1.10-t3"), cand("1.9.65535.65535", 96)),
-    # two test builds
-    (inst("1.10-t3"), cand("1.10-t3")),
-    (inst("1.10-t3"), cand("1.10.0-t3")),
-    (inst("1.10.0-t3", 96), cand("1.10-t3", 96)),
-    (inst("1.10-t3"), cand("1.10-t12")),
-    (inst("1.10-t12"), cand("1.10-t3")),
-    (inst("1.10-t12"), cand("1.11-t3")),
-    (inst("1.11-t3"), cand("1.10-t12")),
-    (inst("65535.65535.6-t1"), cand("65535.65535.6-t2")),
-    # malformed endings
-    (inst("1.10-t"), cand("1.11")),
-    (inst("1.10"), cand("1.11-t")),
-    (inst("1.10-t0"), cand("1.10-t1")),
-    (inst("1.10-t3"), cand("1.10-t04")),
-    (inst("1.10-t65536"), cand("1.10")),
-    (inst("1.10-t3"), cand("1.10-T4")),
-    (inst("1.10-t3-t4"), cand("1.10-t5")),
-    (inst("1.10-t3"), cand("1.10-t4.1")),
-    (inst("-t3"), cand("1.10")),
-    (inst("1.9"), cand("65535.65535.65-t")),
-    (inst("1.10-t0"), cand("1.10-t0")),
-    (inst("1.10-t0", flag=0xAB), cand("1.10-t0")),
-    (inst("1.10-t0"), cand("1.10-t0", flag=0xAB)),
 ]
 GOOD, LONG, BAD = inst("1.9"), inst("1.9", 96), inst("1.9", 96, flag=0xAB)
 SHEETS = [(GOOD, 64), (GOOD, 65), (GOOD, 0), (LONG, 64), (LONG, 0), (LONG, 91), (LONG, 92), (LONG, 96), (LONG, MAX - 4), (LONG, MAX),

@@ -19,8 +19,7 @@ GCC = ["gcc", "-Wall", "-Wextra", "-Wpedantic", "-Werror"]
 # size_t is one fixed-width type in the first and another in the second, so it is told from both.
 MACHINES = [["-m64"], ["-m32", "-ffreestanding"]]
 
-CLAIMS = [Path(__file__).with_name(f"{name}.c")
-          for name in ("claims", "numbers", "claims_host", "claims_version", "claims_tray", "claims_replay")]
+CLAIMS = [Path(__file__).with_name(f"{name}.c") for name in ("claims", "numbers", "claims_host", "claims_tray", "claims_replay")]
 PHASES = [Path(__file__).with_name(name) for name in ("phases.c", "phases_host.c")]
 INSTALLED, COMPARED = "tests/boundary/installed.c", "tests/compare/*.c"
 

@@ -28,7 +28,6 @@ static void refusals(void)
     uint32_t ranks[UND_TRAY_ENTRY];
 
     HOLD(und_rank(field, UND_VERSION_FIELD).number == 0);
-    HOLD(und_rank(field, sizeof field).rank[4] == UND_RANK_RELEASE);
     HOLD(call_number(1, sizeof flash, 0) == UND_BAD_WORK);
     HOLD(call_number(0, sizeof flash, sizeof work) == UND_BAD_RAM);
     HOLD(call_number(1, 0, sizeof work) == UND_BAD_FLASH);

@@ -38,7 +38,7 @@ NUMBERS = {"u8": "uint8_t", "u32": "uint32_t", "i32": "int32_t", "usize": "size_
 EXPORTED = r'#\[no_mangle\]\s*pub extern "C" fn (\w+)\s*\(([^()]*)\)\s*(?:->\s*(.+?)\s*)?(?=\brequires\b|\bensures\b|\{)'
 STRUCT = r"#\[repr\(C\)\]\s*pub struct %s\s*\{([^{}]*)\}"
 ALIAS = r"\btype %s\s*=\s*(\[[^\[\]]*\]|\w+)\s*;"
-CONSTANT = r"\bconst %s\s*:\s*usize\s*=\s*(\w+(?: \+ \w+)*)\s*;"
+CONSTANT = r"\bconst %s\s*:\s*usize\s*=\s*([\d_]+)\s*;"
 ARRAY = r"\[(\w+); (\w+)\]"
 
 
@@ -92,11 +92,9 @@ class Source:
 
 
 def count_of(text, source):
-    """A number, or a constant: a number or a sum of such."""
-    if text[0].isdigit():
-        return int(text)
-    terms, where = source.item(CONSTANT, text)
-    return sum(count_of(term, where) for term in terms.split(" + "))
+    if not text[0].isdigit():
+        text, _ = source.item(CONSTANT, text)
+    return int(text)
 
 
 def array_of(text, source):

@@ -173,7 +173,7 @@ EDITS = {
         ("wrong length of flash", "UND_FLASH_MAX = 4194304", "UND_FLASH_MAX = 4190208", "not so: .*UND_FLASH_MAX"),
         ("wrong sector", "UND_FLASH_SECTOR = 4096", "UND_FLASH_SECTOR = 8192", "not so: .*UND_FLASH_SECTOR"),
         ("wrong length of the work buffer", "UND_WORK_MIN = 64", "UND_WORK_MIN = 65", "not so: .*UND_WORK_MIN"),
-        ("rank of four numbers", "UND_RANK_NUMBERS = 5", "UND_RANK_NUMBERS = 4", 'static assertion failed: "und_ranked.rank: type"'),
+        ("rank of five numbers", "UND_RANK_NUMBERS = 4", "UND_RANK_NUMBERS = 5", 'static assertion failed: "und_ranked.rank: type"'),
         ("smaller tray", "UND_TRAY_MAX = 1024", "UND_TRAY_MAX = 1023", "not so: .*UND_TRAY_MAX"),
         ("entry without its number", "UND_RANK_NUMBERS + 1", "UND_RANK_NUMBERS", "not so: .*UND_TRAY_ENTRY"),
         ("longer entry", "UND_RANK_NUMBERS + 1", "UND_RANK_NUMBERS + 2", "not so: .*UND_TRAY_ENTRY"),
@@ -283,10 +283,8 @@ EDITS = {
     OFFER: [("layout that is not C's", "#[repr(C)]\n", "", "'Offered' is neither defined here in a form that is known")],
     ORDER: [("fields swapped", "pub number: u32,\n    pub order: i32,", "pub order: i32,\n    pub number: u32,",
              'static assertion failed: "und_ordered.order: place"')],
-    RANK: [
-        ("longer array", "TEXT_NUMBERS: usize = 4", "TEXT_NUMBERS: usize = 5", 'static assertion failed: "und_ranked.rank: type"'),
-        ("array without the test number", "= TEXT_NUMBERS + 1", "= TEXT_NUMBERS", 'static assertion failed: "und_ranked.rank: type"'),
-    ],
+    RANK: [("longer array", "NUMBERS: usize = 4", "NUMBERS: usize = 5",
+            'static assertion failed: "und_ranked.rank: type"')],
 }
 
 # What is wrong, what objcopy is told, what the refusal says.

@@ -5,6 +5,34 @@
 
 #include <string.h>
 
+void field_of(const char *text, uint8_t field[VERSION_FIELD])
+{
+    memset(field, 0, VERSION_FIELD);
+    memcpy(field, text, strlen(text));
+}
+
+static void order_figure(trial *t, const char *a, const char *b, uint32_t number, int32_t order)
+{
+    uint8_t left[VERSION_FIELD], right[VERSION_FIELD];
+    field_of(a, left);
+    field_of(b, right);
+    und_ordered got = und_order(left, sizeof left, right, sizeof right);
+    model_ordered model = model_order(left, sizeof left, right, sizeof right);
+    if (got.number != number || got.order != order || model.number != number || model.order != order)
+        differ(t, "figure: order of '%s' and '%s'", a, b);
+}
+
+static void version_figures(trial *t)
+{
+    order_figure(t, "1.9", "1.10", 0, -1);
+    order_figure(t, "1.9", "1.9.0", 0, 0);
+    order_figure(t, "65535.65535.6553", "65535.65535.6553", 0, 0);
+    order_figure(t, "01.2", "1.9", 61, 0);
+    order_figure(t, "", "1.9", 61, 0);
+    order_figure(t, "1.65536", "1.9", 61, 0);
+    order_figure(t, "1..2", "1.9", 61, 0);
+}
+
 /* The headers for the code 123456789, id 9, version 1.10 and a time, and for two offsets, byte by byte. */
 static void header_figures(trial *t)
 {

@@ -6,8 +6,7 @@
 
 void run_figures(trial *t);
 
-/* Those of versions, of trays, of slots, of sessions, of hosts, and of recordings, a file for each. */
-void version_figures(trial *t);
+/* Those of trays, of slots, of sessions, of hosts, and of recordings, a file for each. */
 void tray_figures(trial *t);
 void slot_figures(trial *t);
 void exchange_figures(trial *t);

@@ -1,7 +1,7 @@
 /* Cases of headers that are made, and what the selector and an offer then say of them. */
-#include "endings.h"
 #include "fill.h"
 #include "lend.h"
+#include "seen.h"
 #include "texts.h"
 #include "undalisho.h"
 
@@ -108,7 +108,6 @@ void image_header_case(trial *t)
     if (!shelf_intact(&code_shelf) || !shelf_intact(&version_shelf))
         differ(t, "a byte beside code or version was written");
     if (want.number == 0 && !differs(t)) {
-        seen(SEEN_HEADER_BUILD, is_test_build(text));
         as_files(t, got.bytes, code, length);
         as_slot(t, got.bytes, code, length);
     }

@@ -1,14 +1,14 @@
 /* Cases of the selector and of offers, and what the headers say there. */
-#include "endings.h"
 #include "fill.h"
 #include "lend.h"
 #include "readings.h"
+#include "seen.h"
 #include "texts.h"
 #include "undalisho.h"
 
 #include <string.h>
 
-enum { MOST_FILE = IMAGE_HEADER + MOST_CODE + 256, VERSION_PLACE = 12 };
+enum { MOST_FILE = IMAGE_HEADER + MOST_CODE + 256 };
 
 static uint32_t code_length(trial *t, size_t room)
 {
@@ -121,13 +121,11 @@ void offer_case(trial *t)
     for (int i = 0; i < 2; i++) {
         if (!shelves[i].first)
             shelf_build(&shelves[i], MOST_FILE);
-        if (i == 0 || !once_in(t->c, 4)) {
+        if (i == 0 || !once_in(t->c, 8)) {
             lengths[i] = make_file(t, content[i]);
         } else {
             lengths[i] = lengths[0];
             memcpy(content[1], content[0], lengths[0]);
-            if (once_in(t->c, 2))
-                change_ending(t, content[1] + VERSION_PLACE);
         }
         files[i] = shelf_lend(&shelves[i], lengths[i], at_end);
         memcpy(files[i], content[i], lengths[i]);
@@ -137,8 +135,6 @@ void offer_case(trial *t)
     model_offered want = model_offer(content[0], lengths[0], content[1], lengths[1]);
     tell(t, "offer: number %u, file %u, place %zu, size %zu\n", want.number, want.file, want.place, want.size);
     seen(SEEN_OFFER_NUMBER, want.number);
-    if (want.number == 0)
-        note_builds(SEEN_OFFER_BUILDS, content[0] + VERSION_PLACE, content[1] + VERSION_PLACE);
     same_number(t, "offer's number", got.number, want.number);
     same_number(t, "offered file", got.file, want.file);
     same_number(t, "place of the code", got.place, want.place);

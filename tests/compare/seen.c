@@ -42,9 +42,6 @@ typedef struct {
 #define RANGE_IN_FLASH 3, 4, 8, 18, -1
 #define TAKES_CODE 6, 7, 8, 9, -1
 #define HAS_OPCODE 5, 6, 7, 8, 9, 10, 11, 12, 13, 14, 15, 16, 17, -1
-#define BUILDS \
-    BUILDS_TEST_RELEASE, BUILDS_RELEASE_TEST, BUILDS_LOWER, BUILDS_SAME, BUILDS_HIGHER, BUILDS_ABOVE_RELEASE, \
-        BUILDS_BELOW_RELEASE, -1
 #define OF_A_FILE 0, 81, 82, 83, 84, -1
 #define ENTRY_LENGTHS ENTRY_EMPTY, ENTRY_ONE, ENTRY_SHORT, ENTRY_LONG, ENTRY_MOST, -1
 #define CUTS CUT_AFTER_KIND, CUT_IN_LENGTH, CUT_BEFORE_BYTES, CUT_IN_BYTES, CUT_ONE_SHORT, -1
@@ -65,13 +62,6 @@ static const wanted all[SEENS] = {
     [SEEN_PRODUCT_NUMBER] = {"number of a product header", {0, 3, 51, 52, -1}},
     [SEEN_COMMAND_NUMBER] = {"number of a command", {0, 11, 12, -1}},
     [SEEN_TRAY_NUMBER] = {"number of a tray", {0, 64, 65, -1}},
-    [SEEN_ENDING] = {"a version with an ending of class",
-                     {ENDING_NONE, ENDING_TEST, ENDING_HYPHEN, ENDING_NO_NUMBER, ENDING_ZERO, ENDING_LEADING_ZERO,
-                      ENDING_ABOVE, ENDING_LETTER, ENDING_MORE, ENDING_TWICE, ENDING_FIRST, ENDING_CUT, -1}},
-    [SEEN_ORDER_BUILDS] = {"an order of test builds of class", {BUILDS}},
-    [SEEN_OFFER_BUILDS] = {"an offer of test builds of class", {BUILDS}},
-    [SEEN_TRAY_BUILD] = {"a tray's entry of a release or a test build:", {0, 1, -1}},
-    [SEEN_HEADER_BUILD] = {"a made header of a release or a test build:", {0, 1, -1}},
     [SEEN_TRAY_0] = {"an accepted tray with a list of class", {LIST_NONE, LIST_ONE, LIST_MOST, LIST_WHOLE, -1}},
     [SEEN_TRAY_64] = {"a tray refused with 64 with a list of class",
                       {LIST_ABOVE, LIST_SHORT, LIST_LONG, LIST_MOST_AND_PART, LIST_PART, -1}},

@@ -11,10 +11,6 @@ typedef enum {
     SEEN_RANK_NUMBER, SEEN_ORDER_NUMBER, SEEN_SELECT_NUMBER, SEEN_OFFER_NUMBER,
     SEEN_FRAME_P_NUMBER, SEEN_FRAME_E_NUMBER, SEEN_ROM_NUMBER, SEEN_UARTBOOT_NUMBER,
     SEEN_PRODUCT_NUMBER, SEEN_COMMAND_NUMBER, SEEN_IMAGE_HEADER_NUMBER, SEEN_HOST_NUMBER, SEEN_TRAY_NUMBER,
-    /* fields by their ending (see below), refused for it alone where it is wrong; two versions of which one is a test
-       build, by how they compare (see below): in an order, in an offer; 1 where a tray's entry, or a made header, is
-       that of a test build */
-    SEEN_ENDING, SEEN_ORDER_BUILDS, SEEN_OFFER_BUILDS, SEEN_TRAY_BUILD, SEEN_HEADER_BUILD,
     /* trays by their list (see below): accepted, refused with each number, with 64 where the room is short too */
     SEEN_TRAY_0, SEEN_TRAY_64, SEEN_TRAY_65, SEEN_TRAY_64_AND_65,
     /* a good list's room (see below); pointers that are NULL, 1 to no fields, 2 to no room, 3 both; entries by their
@@ -114,36 +110,6 @@ typedef enum {
     SEENS
 } seen_what;
 /* clang-format on */
-
-/* A version's ending: none; that of a test build; a hyphen alone; no number; 0; a leading zero; a number above 65,535;
-   another letter; another byte after it; another ending after it; no number before it; cut off by the field's end. */
-typedef enum {
-    ENDING_NONE,
-    ENDING_TEST,
-    ENDING_HYPHEN,
-    ENDING_NO_NUMBER,
-    ENDING_ZERO,
-    ENDING_LEADING_ZERO,
-    ENDING_ABOVE,
-    ENDING_LETTER,
-    ENDING_MORE,
-    ENDING_TWICE,
-    ENDING_FIRST,
-    ENDING_CUT
-} seen_ending;
-
-/* Two versions: a test build and its release, in this order or turned round; two test builds of one release, the lower
-   first, equal, the higher first; a test build and a lower release, a test build and a higher one. */
-typedef enum {
-    BUILDS_TEST_RELEASE,
-    BUILDS_RELEASE_TEST,
-    BUILDS_LOWER,
-    BUILDS_SAME,
-    BUILDS_HIGHER,
-    BUILDS_ABOVE_RELEASE,
-    BUILDS_BELOW_RELEASE,
-    BUILDS_OTHER
-} seen_builds;
 
 /* A tray's list: no, one or the most fields, one more than the most; a byte less or more than one field; the most
    fields and a part of another; any other, whole or not. */

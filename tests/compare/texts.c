@@ -1,15 +1,22 @@
 #include "texts.h"
 
-#include "endings.h"
 #include "fill.h"
 
+#include <stdio.h>
 #include <string.h>
+
+static size_t put_decimal(trial *t, char *at)
+{
+    static const uint32_t edges[] = {0, 1, 9, 10, 99, 100, 65535, 65536, 65534, 99999, 100000, 4294967295u};
+    uint32_t value = once_in(t->c, 3) ? PICK_OF(t->c, edges) : pick(t->c, once_in(t->c, 3) ? 65536 : 20);
+    return (size_t)sprintf(at, once_in(t->c, 30) ? "0%u" : "%u", value);
+}
 
 void make_version(trial *t, uint8_t *field, size_t room)
 {
-    static const char odd[] = {'.', '0', '9', 'a', ' ', '-', 't', '/', ':', 0, 1, (char)0xFF};
-    enum { MOST_NUMBERS = TEXT_NUMBERS + 2 };
-    char text[MOST_NUMBERS * LONGEST_DECIMAL + LONGEST_ENDING] = {0};
+    static const char odd[] = {'.', '0', '9', 'a', ' ', '-', '/', ':', 0, 1, (char)0xFF};
+    enum { MOST_NUMBERS = TEXT_NUMBERS + 2, LONGEST_NUMBER = 12 /* with its dot */ };
+    char text[MOST_NUMBERS * LONGEST_NUMBER] = {0};
     size_t length = 0;
     uint32_t numbers = once_in(t->c, 16) ? pick(t->c, MOST_NUMBERS + 1) : 1 + pick(t->c, TEXT_NUMBERS);
     for (uint32_t k = 0; k < numbers; k++) {
@@ -17,8 +24,6 @@ void make_version(trial *t, uint8_t *field, size_t room)
         if (k + 1 < numbers)
             text[length++] = '.';
     }
-    if (once_in(t->c, 3))
-        length += put_ending(t, text + length);
     memset(field, 0, room);
     memcpy(field, text, length < room ? length : room);
     uint32_t place = pick(t->c, VERSION_FIELD);

@@ -1,7 +1,7 @@
 /* Cases of trays: version fields ranked in one call. */
-#include "endings.h"
 #include "fill.h"
 #include "lend.h"
+#include "seen.h"
 #include "texts.h"
 #include "undalisho.h"
 
@@ -120,10 +120,8 @@ static void note_entries(const tray *y)
     for (size_t i = 0; i < y->count; i++) {
         uint32_t number = want_ranks[i * TRAY_ENTRY + RANK_NUMBERS];
         seen(SEEN_TRAY_ENTRY, number);
-        if (number == 0) {
-            seen(SEEN_TRAY_BUILD, is_test_build(kept + i * VERSION_FIELD));
+        if (number == 0)
             continue;
-        }
         malformed++;
         place = i;
     }

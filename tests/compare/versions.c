@@ -1,6 +1,7 @@
 /* Cases of version fields: their rank, and the order of two. */
-#include "endings.h"
 #include "lend.h"
+#include "model.h"
+#include "seen.h"
 #include "texts.h"
 #include "trial.h"
 #include "undalisho.h"
@@ -22,8 +23,6 @@ static void same_rank(trial *t, const field *f)
     und_ranked got = und_rank(f->length == 0 ? NULL : f->lent, f->length);
     model_ranked want = model_rank(f->kept, f->length);
     seen(SEEN_RANK_NUMBER, want.number);
-    if (f->length == VERSION_FIELD)
-        note_ending(f->kept);
     same_number(t, "rank's number", got.number, want.number);
     for (int k = 0; k < RANK_NUMBERS; k++)
         same_number(t, "rank", got.rank[k], want.rank[k]);
@@ -48,9 +47,7 @@ void version_case(trial *t)
     bool at_end = once_in(t->c, 2);
     make_version(t, text, sizeof text);
     lend_field(t, a, text, at_end);
-    if (once_in(t->c, 4))
-        change_ending(t, text);
-    else if (!once_in(t->c, 6))
+    if (!once_in(t->c, 6))
         make_version(t, text, sizeof text);
     lend_field(t, b, text, at_end);
 
@@ -59,8 +56,6 @@ void version_case(trial *t)
     und_ordered got = und_order(a->lent, a->length, b->lent, b->length);
     model_ordered want = model_order(a->kept, a->length, b->kept, b->length);
     seen(SEEN_ORDER_NUMBER, want.number);
-    if (want.number == 0)
-        note_builds(SEEN_ORDER_BUILDS, a->kept, b->kept);
     same_number(t, "order's number", got.number, want.number);
     same_number(t, "order", (uint64_t)got.order, (uint64_t)want.order);
     for (field *f = fields; f < fields + 2; f++) {

@@ -14,8 +14,8 @@ uint32_t model_crc32(const uint8_t *bytes, size_t count);
 /* Versions. */
 enum {
     VERSION_FIELD = 16,
-    TEXT_NUMBERS = 4,              /* of a version's text, at most */
-    RANK_NUMBERS = 5,              /* those of the text, and then the test number, of a release 65,536 */
+    TEXT_NUMBERS = 4, /* of a version's text, at most */
+    RANK_NUMBERS = 4,
     TRAY_ENTRY = RANK_NUMBERS + 1, /* the rank, and then the number */
     MOST_TRAY = 1024               /* fields */
 };

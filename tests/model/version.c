@@ -1,10 +1,7 @@
-/* Version text: one to four decimal numbers with dots between, for a test build also -t and its number, padded with 00
-   to 16 bytes. The ending is taken off first, from the back. */
+/* Version text: one to four decimal numbers with dots between, padded with 00 to 16 bytes. */
 #include "model.h"
 
 #include <string.h>
-
-enum { RELEASE = 65536 }; /* stands for the test number */
 
 static const model_ranked refused = {61, {0}};
 
@@ -21,36 +18,6 @@ static long number_of(const char *text, size_t length)
     return value <= 65535 ? value : -1;
 }
 
-/* Takes the ending off the text. Gives its number, RELEASE where there is no hyphen, or -1. */
-static long take_ending(char *text)
-{
-    char *ending = strrchr(text, '-');
-    if (ending == NULL)
-        return RELEASE;
-    if (ending[1] != 't')
-        return -1;
-    *ending = 0;
-    const char *digits = ending + 2;
-    long test = number_of(digits, strlen(digits));
-    return test != 0 ? test : -1;
-}
-
-/* Stores the numbers with dots between. False for a fifth, and for a piece that is none, as where an ending is left. */
-static bool read_numbers(const char *text, uint32_t *numbers)
-{
-    for (int k = 0; k < TEXT_NUMBERS; k++) {
-        size_t end = strcspn(text, ".");
-        long value = number_of(text, end);
-        if (value < 0)
-            return false;
-        numbers[k] = (uint32_t)value;
-        if (text[end] == 0)
-            return true;
-        text += end + 1;
-    }
-    return false;
-}
-
 model_ranked model_rank(const uint8_t *field, size_t length)
 {
     if (length != VERSION_FIELD)
@@ -62,11 +29,18 @@ model_ranked model_rank(const uint8_t *field, size_t length)
             return refused;
 
     model_ranked given = {0, {0}};
-    long test = take_ending(text);
-    if (test < 0 || !read_numbers(text, given.rank))
-        return refused;
-    given.rank[TEXT_NUMBERS] = (uint32_t)test;
-    return given;
+    const char *piece = text;
+    for (int k = 0; k < TEXT_NUMBERS; k++) {
+        size_t end = strcspn(piece, ".");
+        long value = number_of(piece, end);
+        if (value < 0)
+            return refused;
+        given.rank[k] = (uint32_t)value;
+        if (piece[end] == 0)
+            return given;
+        piece += end + 1;
+    }
+    return refused;
 }
 
 model_ordered model_order(const uint8_t *a, size_t a_length, const uint8_t *b, size_t b_length)

@@ -99,15 +99,12 @@ def select(content, header=USUAL_HEADER):
 
 
 def rank(field):
-    """The five numbers of a version field, or None where its text is malformed. The fifth is a test build's; a release has 65,536."""
+    """The numbers of a version field, or None where its text is malformed."""
     text = field.rstrip(b'\0')
-    if not re.fullmatch(rb'(0|[1-9][0-9]*)(\.(0|[1-9][0-9]*)){0,3}(-t[1-9][0-9]*)?', text):
+    if not re.fullmatch(rb'(0|[1-9][0-9]*)(\.(0|[1-9][0-9]*)){0,3}', text):
         return None
-    numbers = [int(each) for each in re.split(rb'\.|-t', text)]
-    if max(numbers) > 65535:
-        return None
-    test = numbers.pop() if b'-' in text else 65536
-    return (numbers + [0, 0, 0])[:4] + [test]
+    numbers = [int(each) for each in text.split(b'.')]
+    return (numbers + [0, 0, 0])[:4] if max(numbers) <= 65535 else None
 
 
 def lower_version(content, header=USUAL_HEADER):

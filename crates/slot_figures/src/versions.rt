@@ -17,7 +17,6 @@ pub fn show_rank(row: &[u8]) {
             rank[1] as u64,
             rank[2] as u64,
             rank[3] as u64,
-            rank[4] as u64,
         ],
     );
 }

@@ -1,7 +1,7 @@
 -- Worked trays (rules, 8.4): what the definition gives for a list of fields and room.
 -- Assumes nothing.
 use Rattle.std.specs.Prelude.{ℕ, ◌-◌, List, [], ◌∷◌, ◌++◌, length, replicate}
-use Rattle.version.specs.Figures.{field_of}
+use Rattle.version.specs.Text.{field_length}
 use Rattle.tray.specs.Tray.{Tray, tray, tray_of, bad_tray, short_ranks}
 
 pub record Figure : Type 0 where
@@ -15,22 +15,26 @@ figure bytes ranks wanted = record { bytes = bytes; ranks = ranks; wanted = want
 abbrev pub given : Figure → Tray
 given f = tray_of f.bytes f.ranks
 
--- 1.10-t3, 1.9 and the malformed 01.2
+-- a field with a text
+abbrev field : (text : List ℕ) → List ℕ
+field text = text ++ replicate (field_length - length text) 0
+
+-- 1.10, 1.9 and the malformed 01.2
 abbrev newer : List ℕ
-newer = field_of (0x31 ∷ 0x2E ∷ 0x31 ∷ 0x30 ∷ 0x2D ∷ 0x74 ∷ 0x33 ∷ [])
+newer = field (0x31 ∷ 0x2E ∷ 0x31 ∷ 0x30 ∷ [])
 
 abbrev older : List ℕ
-older = field_of (0x31 ∷ 0x2E ∷ 0x39 ∷ [])
+older = field (0x31 ∷ 0x2E ∷ 0x39 ∷ [])
 
 abbrev malformed : List ℕ
-malformed = field_of (0x30 ∷ 0x31 ∷ 0x2E ∷ 0x32 ∷ [])
+malformed = field (0x30 ∷ 0x31 ∷ 0x2E ∷ 0x32 ∷ [])
 
 -- the entries of the three
 abbrev three : List ℕ
 three =
-    1 ∷ 10 ∷ 0 ∷ 0 ∷ 3 ∷ 0 ∷
-    0 ∷ 0 ∷ 0 ∷ 0 ∷ 0 ∷ 61 ∷
-    1 ∷ 9 ∷ 0 ∷ 0 ∷ 65536 ∷ 0 ∷ []
+    1 ∷ 10 ∷ 0 ∷ 0 ∷ 0 ∷
+    0 ∷ 0 ∷ 0 ∷ 0 ∷ 61 ∷
+    1 ∷ 9 ∷ 0 ∷ 0 ∷ 0 ∷ []
 
 -- room of so many numbers
 abbrev room : (count : ℕ) → List ℕ

@@ -1,9 +1,5 @@
 pub mod Digits
 pub mod Parts
-pub mod Decimals
-pub mod Endings
 pub mod Ranking
 pub mod Ranks
 pub mod Numbers
-pub mod TestBuilds
-pub mod Figures

@@ -1,29 +1,16 @@
--- The rank of a version field: four numbers, missing ones 0, and the test number (rules, 8.2), or its refusal with 61 (rules, 2.3).
+-- The rank of a version field: four numbers, missing ones 0 (rules, 8.2), or its refusal with 61 (rules, 2.3).
 -- Assumes nothing.
-use Rattle.std.specs.Prelude.{ℕ, ◌+◌, ◌-◌, List, [], ◌∷◌, ◌++◌, map, Bool, cond, length, drop, replicate}
+use Rattle.std.specs.Prelude.{ℕ, ◌-◌, List, ◌++◌, map, Bool, cond, length, replicate}
 use Rattle.version.specs.declared.rank.Ranked.{Ranked}
-use Rattle.version.specs.Text.{text, release, ending, parts, value, most_numbers, well_formed}
-
--- missing numbers are 0
-abbrev pub filled : List ℕ → List ℕ
-filled numbers = numbers ++ replicate (most_numbers - length numbers) 0
-
--- what a release has in place of a test number, above each of them
-abbrev pub release_number : ℕ
-release_number = 65536
-
--- the last number of a rank, by the ending: the test number after hyphen and letter, or that of a release
-abbrev pub test_number : List ℕ → ℕ
-test_number [] = release_number
-test_number (b ∷ bs) = value (drop 1 bs)
+use Rattle.version.specs.Text.{text, parts, value, most_numbers, well_formed}
 
 -- how many numbers a rank has
 abbrev pub rank_length : ℕ
-rank_length = most_numbers + 1
+rank_length = most_numbers
 
--- the numbers of a text: those of its release, and its test number
-abbrev pub numbers_of : (t : List ℕ) → List ℕ
-numbers_of t = filled (map value (parts (release t))) ++ test_number (ending t) ∷ []
+-- missing numbers are 0
+abbrev pub filled : List ℕ → List ℕ
+filled numbers = numbers ++ replicate (rank_length - length numbers) 0
 
 -- the number given for malformed text, or a field that isn't 16 bytes long
 abbrev pub malformed_text : ℕ
@@ -37,4 +24,4 @@ abbrev pub rank_if : Bool → List ℕ → Ranked
 rank_if good rank = cond good (record { number = 0; rank = rank }) refused
 
 unfoldable pub rank_of : List ℕ → Ranked
-rank_of field = rank_if (well_formed field) (numbers_of (text field))
+rank_of field = rank_if (well_formed field) (filled (map value (parts (text field))))

@@ -1,51 +1,35 @@
--- Version text (rules, 8.1): what is before the first 00 of a field. Its ending is taken off, and the rest taken apart at its dots.
+-- Version text (rules, 8.1): what is before the first 00 of a field, taken apart at its dots.
 -- Assumes nothing.
 use Rattle.std.specs.Prelude.{ℕ, ◌+◌, ◌*◌, ◌-◌, List, [], ◌∷◌, Bool, true, false, cond, not, ◌&&◌, eqb, leb, length}
 
--- the bytes before the first one that is b, and those from it on
-abbrev pub before_first : (b : ℕ) → List ℕ → List ℕ
-before_first b [] = []
-before_first b (x ∷ xs) = cond (eqb x b) [] (x ∷ before_first b xs)
-
-abbrev pub from_first : (b : ℕ) → List ℕ → List ℕ
-from_first b [] = []
-from_first b (x ∷ xs) = cond (eqb x b) (x ∷ xs) (from_first b xs)
-
--- the text of a field ends before the first 00, and from there on is its padding
+-- the text of a field: its bytes before the first 00
 abbrev pub text : List ℕ → List ℕ
-text field = before_first 0 field
+text [] = []
+text (b ∷ bs) = cond (eqb b 0) [] (b ∷ text bs)
 
+-- and its padding: the bytes from the first 00 on
 abbrev pub padding : List ℕ → List ℕ
-padding field = from_first 0 field
+padding [] = []
+padding (b ∷ bs) = cond (eqb b 0) (b ∷ bs) (padding bs)
 
 abbrev pub all_zero : List ℕ → Bool
 all_zero [] = true
 all_zero (b ∷ bs) = eqb b 0 && all_zero bs
 
--- the byte that an ending begins with
-abbrev pub hyphen : ℕ
-hyphen = 0x2D
-
--- a text names a release, and from the first hyphen on it may have an ending, that of a test build
-abbrev pub release : List ℕ → List ℕ
-release t = before_first hyphen t
-
-abbrev pub ending : List ℕ → List ℕ
-ending t = from_first hyphen t
-
--- the byte between two parts of a release
+-- the byte between two parts of a text
 abbrev pub dot : ℕ
 dot = 0x2E
 
 -- the part before the first dot, and the parts after it
 abbrev pub first_part : List ℕ → List ℕ
-first_part t = before_first dot t
+first_part [] = []
+first_part (b ∷ bs) = cond (eqb b dot) [] (b ∷ first_part bs)
 
 abbrev pub later_parts : List ℕ → List (List ℕ)
 later_parts [] = []
 later_parts (b ∷ bs) = cond (eqb b dot) (first_part bs ∷ later_parts bs) (later_parts bs)
 
--- the parts between dots; without a dot there is one part
+-- the parts between dots; a text without a dot is one part
 abbrev pub parts : List ℕ → List (List ℕ)
 parts t = first_part t ∷ later_parts t
 
@@ -86,36 +70,18 @@ abbrev pub all_numbers : List (List ℕ) → Bool
 all_numbers [] = true
 all_numbers (p ∷ ps) = is_number p && all_numbers ps
 
--- the letter of a test build, 't', and its number: any that a version may have but 0
-abbrev pub test_letter : ℕ
-test_letter = 0x74
-
-abbrev pub is_test_number : (digits : List ℕ) → Bool
-is_test_number digits = is_number digits && leb 1 (value digits)
-
--- what follows the hyphen of an ending: the letter, and then the number
-abbrev pub is_test : List ℕ → Bool
-is_test [] = false
-is_test (b ∷ digits) = eqb b test_letter && is_test_number digits
-
--- no ending, that of a release, or that of a test build
-abbrev pub is_ending : List ℕ → Bool
-is_ending [] = true
-is_ending (b ∷ bs) = eqb b hyphen && is_test bs
-
 -- how many bytes a field has
 abbrev pub field_length : ℕ
 field_length = 16
 
--- how many numbers a release has at most
+-- how many numbers a text has at most
 abbrev pub most_numbers : ℕ
 most_numbers = 4
 
--- a field of 16 bytes: a release of at most four parts, each a number, then its ending, and only 00 after that
+-- a field of 16 bytes, with at most four parts, each a number, and only 00 after them
 unfoldable pub well_formed : List ℕ → Bool
 well_formed field =
     eqb (length field) field_length
     && (all_zero (padding field)
-    && (leb (length (parts (release (text field)))) most_numbers
-    && (all_numbers (parts (release (text field)))
-    && is_ending (ending (text field)))))
+    && (leb (length (parts (text field))) most_numbers
+    && all_numbers (parts (text field))))

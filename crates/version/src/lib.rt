@@ -1,6 +1,4 @@
 // Version text in fields of 16 bytes: its rank, and the order of two versions.
-pub mod bytes;
 pub mod decimal;
-pub mod ending;
 pub mod order;
 pub mod rank;

@@ -53,8 +53,8 @@ mul-rank c = search rules
 array-write-rank : tie.Need-array-write-rank invariant-loop decreases-loop
 array-write-rank c = search rules
 
-is-at-requires : tie.Need-is-at-requires invariant-loop decreases-loop
-is-at-requires c κs = search rules
+is-dot-requires : tie.Need-is-dot-requires invariant-loop decreases-loop
+is-dot-requires c κs = search rules
 
 add_at : tie.Need-overflow-add-at invariant-loop decreases-loop
 add_at c =
@@ -75,7 +75,7 @@ loop-again c =
     let value = c.before.before.before in
     let number = value.before.before in
     let loop = number.before.before.loop in
-    ranking-dotted _ _ _ _ _ _ loop.invariant (sym number.decimal-at.ensures ∙ value.value.given.1) (sym c.before.is_at.ensures ∙ c.if2.true)
+    ranking-dotted _ _ _ _ _ _ loop.invariant (sym number.decimal-at.ensures ∙ value.value.given.1) (sym c.before.is-dot.ensures ∙ c.if2.true)
 
 ended-requires : tie.Need-ended-requires invariant-loop decreases-loop
 ended-requires c κs =
@@ -90,7 +90,7 @@ returns-3 c =
     let number = value.before.before in
     let loop = number.before.before.loop in
     c.ended.ensures
-    ∙ sym (ranking-ended _ _ _ _ _ _ loop.invariant (sym number.decimal-at.ensures ∙ value.value.given.1) number.before.loop-test.true (sym c.before.before.is_at.ensures ∙ c.before.if2.false))
+    ∙ sym (ranking-ended _ _ _ _ _ _ loop.invariant (sym number.decimal-at.ensures ∙ value.value.given.1) number.before.loop-test.true (sym c.before.before.is-dot.ensures ∙ c.before.if2.false))
 
 refused-requires-3 : tie.Need-refused-requires-3 invariant-loop decreases-loop
 refused-requires-3 c κs = search rules
@@ -114,7 +114,7 @@ rank-spec =
     returns-2
     mul-rank
     array-write-rank
-    is-at-requires
+    is-dot-requires
     add_at
     add-place
     loop-less
