@@ -1,4 +1,6 @@
 // What C gets of a session call: the report by value, the record in eight words.
+#![tactic(auto)]
+
 ghost use Rattle.std.specs.Prelude.{◌≡◌};
 ghost use Rattle.called.specs.Called.{called_of, words_after};
 
@@ -7,7 +9,7 @@ use machine::words::put;
 
 // A session call's report without its record, which C has in its eight words.
 #[repr(C)]
-#[derive(Drop)]
+#[derive(Clone, Copy)]
 pub struct Called {
     pub number: u32,
     pub standing: u32,

@@ -1,5 +1,7 @@
 // The functions that C calls for versions, slots and offers. As in all crates for C, numbers and results go by value, a slice is
 // pointer and length, a record is eight words.
+#![tactic(auto)]
+
 ghost use Rattle.std.specs.Prelude.{◌≡◌};
 ghost use Rattle.version.specs.Rank.{rank_of};
 ghost use Rattle.version.specs.Order.{order_of};

@@ -1,4 +1,6 @@
 // The functions with which C makes boot frames.
+#![tactic(auto)]
+
 ghost use Rattle.std.specs.Prelude.{◌≡◌};
 ghost use Rattle.rom_flow.specs.declared.kind.Kind.TheVariants.{P, E};
 ghost use Rattle.frame.specs.Frame.{written, framed_of};

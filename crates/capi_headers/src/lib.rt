@@ -1,4 +1,6 @@
 // The functions that C calls to make headers: numbers by value, byte slices as pointer and length, results by value.
+#![tactic(auto)]
+
 ghost use Rattle.std.specs.Prelude.{◌≡◌};
 ghost use Rattle.headers.specs.ImageHeader.{image_header_of};
 ghost use Rattle.headers.specs.ProductHeader.{product_header_of};

@@ -1,4 +1,6 @@
 // The functions with which C reads headers and commands.
+#![tactic(auto)]
+
 ghost use Rattle.std.specs.Prelude.{◌≡◌};
 ghost use Rattle.inspect.specs.Image.{read_image};
 ghost use Rattle.inspect.specs.Product.{read_product};

@@ -1,4 +1,6 @@
 // The function that C calls to replay a recorded visit.
+#![tactic(auto)]
+
 ghost use Rattle.std.specs.Prelude.{◌≡◌};
 ghost use Rattle.memory.specs.Memories.{memories};
 ghost use Rattle.visit.specs.Replay.{replayed, replay_of};

@@ -1,4 +1,6 @@
 // The function that C calls for a tray of versions. A slice of numbers is a pointer and how many numbers there are.
+#![tactic(auto)]
+
 ghost use Rattle.std.specs.Prelude.{◌≡◌};
 ghost use Rattle.tray.specs.Tray.{tray, tray_of};
 

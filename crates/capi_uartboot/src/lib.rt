@@ -1,4 +1,6 @@
 // The functions of a uartboot session for C: a fresh record, and a call.
+#![tactic(auto)]
+
 ghost use Rattle.std.specs.Prelude.{◌≡◌};
 ghost use Rattle.machine.specs.Session.{result_of};
 ghost use Rattle.machine.specs.Words.{record_of, words_of};

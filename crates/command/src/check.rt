@@ -23,7 +23,7 @@ pub const PAST_END: u32 = 21;
 pub const LONG_ANSWER: u32 = 17;
 
 // What is tested of a command: its verify byte, its count, its range in RAM, its range in flash, and how long its answer is.
-#[derive(Drop)]
+#[derive(Clone, Copy)]
 pub struct Checks {
     pub verify: u8,
     pub count: u32,

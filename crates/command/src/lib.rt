@@ -1,4 +1,6 @@
 // uartboot's commands: what a payload says, and the checks.
+#![tactic(auto)]
+
 pub mod check;
 pub mod payload;
 pub mod version;

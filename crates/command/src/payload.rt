@@ -9,7 +9,7 @@ use wire::unit::{FlashOffset, RamAddress};
 
 // A command with its numbers. For Write and Direct write the last one counts the data, which are in the work buffer after the payload's
 // numbers.
-#[derive(Drop)]
+#[derive(Clone, Copy)]
 pub enum Command {
     Write(RamAddress, u32),
     Read(RamAddress, u32),

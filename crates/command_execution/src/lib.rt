@@ -1,4 +1,6 @@
 // What each of uartboot's commands does to the memories, and how it ends.
+#![tactic(auto)]
+
 ghost use Rattle.std.specs.Prelude.{◌≡◌, ◌+◌, ◌-◌, ◌≤◌, length};
 ghost use Rattle.memory.specs.Store.{laid, changed_from, part_of};
 ghost use Rattle.memory.specs.Flash.{burnt};
@@ -21,7 +23,7 @@ pub const VERIFY_DIFFERS: u32 = 18;
 
 // How a command ends: without an answer, with an answer of n bytes at the front of the work buffer, with code running at an
 // address, or with a reason.
-#[derive(Drop)]
+#[derive(Clone, Copy)]
 pub enum Ending {
     Silent,
     Answers(u32),

@@ -1,4 +1,6 @@
 // Runs the published figures over the proved code. What it writes is held to the file stdout beside src/.
+#![tactic(auto)]
+
 mod checksums;
 mod exchanges;
 mod ranges;

@@ -1,4 +1,6 @@
 // The boot frame: the code as a host sends it to the ROM's UART receiver.
+#![tactic(auto)]
+
 ghost use Rattle.std.specs.Prelude.{◌≡◌, ◌≤◌, length};
 ghost use Rattle.memory.specs.Store.{laid};
 ghost use Rattle.frame.specs.Frame.{longest, is_extended, header_of, frame_of, refused, written, framed_of};
@@ -25,7 +27,7 @@ pub const LONGEST_E: usize = 131_071;
 
 // The number 0 and the frame's length, or a refusal's number and length 0.
 #[repr(C)]
-#[derive(Drop)]
+#[derive(Clone, Copy)]
 pub struct Framed {
     pub number: u32,
     pub length: usize,

@@ -1,4 +1,6 @@
 // Headers that are made: that of an image for a code, and a product header for two offsets.
+#![tactic(auto)]
+
 ghost use Rattle.std.specs.Prelude.{◌≡◌, length};
 ghost use Rattle.version.specs.Text.{field_length};
 ghost use Rattle.headers.specs.ProductHeader.{product_header_of};
@@ -20,14 +22,14 @@ pub const LONG_CODE: u32 = 42;
 
 // The number 0 and the header, or a refusal's number and zeros.
 #[repr(C)]
-#[derive(Drop)]
+#[derive(Clone, Copy)]
 pub struct ImageHeader {
     pub number: u32,
     pub bytes: [u8; HEADER],
 }
 
 #[repr(C)]
-#[derive(Drop)]
+#[derive(Clone, Copy)]
 pub struct ProductHeader {
     pub bytes: [u8; PRODUCT],
 }

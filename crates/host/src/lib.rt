@@ -1,2 +1,4 @@
 // The host's end of uartboot as its caller sees it: the call.
+#![tactic(auto)]
+
 pub mod session;

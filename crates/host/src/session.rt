@@ -16,7 +16,7 @@ use host_turn::{look, send, take};
 use machine::{BAD_RECORD, Record, Report, advance, refused};
 
 // Where the actions stopped: waiting for a byte (1) or for room (2), or the command is over (3).
-#[derive(Drop)]
+#[derive(Clone, Copy)]
 struct Stop {
     step: Step,
     reason: u32,

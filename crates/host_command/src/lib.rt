@@ -1,4 +1,6 @@
 // The command that a host is lent: what the host knows from it, and its refusals.
+#![tactic(auto)]
+
 ghost use Rattle.std.specs.Prelude.{true, ◌≡◌, ◌≤◌, length};
 ghost use Rattle.opcodes.specs.Opcode.{has_length};
 ghost use Rattle.host_command.specs.Exchange.{lent, follows_command, awaited_of};
@@ -19,7 +21,7 @@ pub const SHORT_ANSWER: u32 = 72;
 const LONGEST_PAYLOAD: usize = 65_535;
 
 // What comes after a command's execution: an answer of this length, nothing since code runs, or the next greeting.
-#[derive(Drop)]
+#[derive(Clone, Copy)]
 pub enum Follows {
     Answers(u32),
     Runs,
@@ -27,7 +29,7 @@ pub enum Follows {
 }
 
 // What a host knows from its command: opcode, length of the payload, what comes after the execution.
-#[derive(Drop)]
+#[derive(Clone, Copy)]
 pub struct Exchange {
     pub opcode: u8,
     pub size: u32,
@@ -35,7 +37,7 @@ pub struct Exchange {
 }
 
 // A command is accepted, or refused with a number.
-#[derive(Drop)]
+#[derive(Clone, Copy)]
 pub enum Judged {
     Accepted(Exchange),
     Refused(u32),

@@ -19,7 +19,7 @@ pub const HEADER_BYTES: u32 = 4;
 // A byte that has to be this one, and the step that follows it; any byte, and the step that follows; the low byte of the device's CRC,
 // and its high byte with the low one; the low byte of an answer's length, and its high byte with the low one; answer bytes, with the
 // next place.
-#[derive(Drop)]
+#[derive(Clone, Copy)]
 pub enum Taking {
     Awaited(u8, Step),
     Any(Step),
@@ -31,7 +31,7 @@ pub enum Taking {
 }
 
 // A byte, and the step that follows it; payload bytes, with the next place; an answer's CRC, and its high byte alone.
-#[derive(Drop)]
+#[derive(Clone, Copy)]
 pub enum Sending {
     Byte(u8, Step),
     Payload(u32),
@@ -40,7 +40,7 @@ pub enum Sending {
 }
 
 // Bytes to take, something to send, a look at the next byte, or nothing since the command is over.
-#[derive(Drop)]
+#[derive(Clone, Copy)]
 pub enum Ask {
     Take(Taking),
     Send(Sending),

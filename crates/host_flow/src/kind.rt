@@ -5,7 +5,7 @@ ghost use Rattle.host_flow.specs.Fresh.{fresh_record};
 use machine::{Record, start};
 
 // A host: what belongs to the session itself.
-#[derive(Drop)]
+#[derive(Clone, Copy)]
 pub struct Host {
     pub kind: u32,
 }

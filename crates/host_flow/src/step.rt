@@ -4,7 +4,7 @@ ghost use Rattle.host_flow.specs.Gives.{progress};
 
 // A step of the flow. A number is the place of the next byte of greeting, header, payload or answer, or the low byte of a CRC or a
 // length whose high byte comes next.
-#[derive(Drop)]
+#[derive(Clone, Copy)]
 pub enum Step {
     TakeGreeting(u32),
     SendHeader(u32),
@@ -29,7 +29,7 @@ pub enum Step {
 }
 
 // A step together with the reason.
-#[derive(Drop)]
+#[derive(Clone, Copy)]
 pub struct Progress {
     pub step: Step,
     pub reason: u32,
@@ -45,7 +45,7 @@ pub fn to(step: Step, reason: u32) -> Progress
 }
 
 // The same after `count` bytes were taken, or sent.
-#[derive(Drop)]
+#[derive(Clone, Copy)]
 pub struct Moved {
     pub step: Step,
     pub reason: u32,

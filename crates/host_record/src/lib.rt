@@ -1,4 +1,6 @@
 // The host's record: a step in numbers, and back.
+#![tactic(auto)]
+
 ghost use Rattle.std.specs.Prelude.{◌≡◌};
 ghost use Rattle.host_record.specs.Record.{numbers_of, written, step_of, only_first, places_behind, places_of, decoded_of};
 
@@ -9,7 +11,7 @@ use host_flow::step::Step;
 use machine::Record;
 
 // A step in numbers. `held` is the low byte of a CRC or a length.
-#[derive(Drop)]
+#[derive(Clone, Copy)]
 pub struct Numbers {
     pub phase: u32,
     pub place: u32,
@@ -17,7 +19,7 @@ pub struct Numbers {
 }
 
 // The step that a record stands for.
-#[derive(Drop)]
+#[derive(Clone, Copy)]
 pub enum Found {
     At(Step),
     Unsound,

@@ -1,4 +1,6 @@
 // One turn of the host: takes or sends what a step asks, in bulk where it is a payload or an answer.
+#![tactic(auto)]
+
 ghost use Rattle.std.specs.Prelude.{◌≡◌, ◌<◌, length};
 ghost use Rattle.host_flow.specs.Gives.{Looked};
 ghost use Rattle.host_flow.specs.Ask.{FitsTaking, FitsSending, TakenSo, SentSo};

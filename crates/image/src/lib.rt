@@ -1,4 +1,6 @@
 // Images: a header of 64 bytes and the code after it, in flash or in a file.
+#![tactic(auto)]
+
 pub mod rule;
 
 ghost use Rattle.std.specs.Prelude.{◌≡◌, ◌+◌, ◌≤◌, length};
@@ -17,7 +19,7 @@ pub const HEADER: usize = 64;
 pub const MARK: u8 = 0x70;
 
 // What is at an offset of a memory.
-#[derive(Drop)]
+#[derive(Clone, Copy)]
 pub enum Image {
     // A valid image: its id, and how many bytes of code it has.
     Valid(u8, usize),

@@ -17,7 +17,7 @@ pub const VALID_FLAG: u8 = 0xAA;
 pub const LARGEST: usize = 131_072;
 
 // What is tested of an image, in this order.
-#[derive(Drop)]
+#[derive(Clone, Copy)]
 pub enum Rule {
     // A valid image breaks none.
     Nothing,

@@ -12,7 +12,7 @@ const VERSION: usize = 12;
 
 // The rule's number, 0 for a valid image, and what the header says. Where the header does not lie in the memory, zeros.
 #[repr(C)]
-#[derive(Drop)]
+#[derive(Clone, Copy)]
 pub struct ImageRead {
     pub rule: u32,
     pub id: u32,

@@ -6,7 +6,7 @@ use slot::product::{Product, product_at};
 
 // The number 0 and the flash offsets of the two images, or a refusal's number and zeros.
 #[repr(C)]
-#[derive(Drop)]
+#[derive(Clone, Copy)]
 pub struct ProductRead {
     pub number: u32,
     pub first: u32,

@@ -1,4 +1,6 @@
 // What a command's payload says.
+#![tactic(auto)]
+
 ghost use Rattle.std.specs.Prelude.{◌≡◌};
 ghost use Rattle.inspect_command.specs.Command.{refused, says, numbers_of, read_command};
 
@@ -10,7 +12,7 @@ const LONGEST: usize = 65_535;
 
 // The number 0 and the command's numbers, 0 where it has none; or a refusal's number and zeros.
 #[repr(C)]
-#[derive(Drop)]
+#[derive(Clone, Copy)]
 pub struct CommandRead {
     pub number: u32,
     pub address: u32,

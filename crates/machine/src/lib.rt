@@ -1,4 +1,6 @@
 // Sessions as deterministic machines: what a caller keeps of one between calls, and what a call reports.
+#![tactic(auto)]
+
 ghost use Rattle.std.specs.Prelude.{◌≡◌, ◌+◌, ◌≤◌};
 ghost use Rattle.machine.specs.Session.{start_record, refused_report};
 
@@ -8,7 +10,7 @@ pub mod words;
 pub const BAD_RECORD: u32 = 4;
 
 // What the caller keeps of a session between calls. An accepted call hands out 0 for the numbers that a phase does not use.
-#[derive(Drop)]
+#[derive(Clone, Copy)]
 pub struct Record {
     pub kind: u32,
     pub phase: u32,
@@ -21,7 +23,7 @@ pub struct Record {
 }
 
 // What a call gives back: the number 0 and what it did, or a refusal's number, zeros and the record as it was given.
-#[derive(Drop)]
+#[derive(Clone, Copy)]
 pub struct Report {
     pub number: u32,
     pub standing: u32,

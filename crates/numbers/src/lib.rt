@@ -1,4 +1,6 @@
 // Little-endian numbers of 2 and 4 bytes, read, written and put together from two bytes.
+#![tactic(auto)]
+
 ghost use Rattle.std.specs.Prelude.{◌≡◌, [], ◌∷◌, ◌+◌, ◌≤◌, length};
 ghost use Rattle.numbers.specs.Number.{number_of, number_at, read_at, paired, low_byte, high_byte};
 
@@ -42,7 +44,7 @@ pub fn number32_at(bytes: &[u8], place: usize) -> u32
 }
 
 // What reading a number at a place finds.
-#[derive(Drop)]
+#[derive(Clone, Copy)]
 pub enum Reading {
     Number(u32),
     // Not all of its bytes are there.

@@ -1,4 +1,6 @@
 // An offer: of two image files, the installed one and a candidate, the one with the higher version.
+#![tactic(auto)]
+
 ghost use Rattle.std.specs.Prelude.{◌≡◌};
 ghost use Rattle.offer.specs.Offer.{refused, wins, offer_of, HandsBack};
 
@@ -20,7 +22,7 @@ pub const CANDIDATE: u32 = 2;
 
 // The number 0, the file that wins, and where its code lies there; or a refusal's number and zeros.
 #[repr(C)]
-#[derive(Drop)]
+#[derive(Clone, Copy)]
 pub struct Offered {
     pub number: u32,
     pub file: u32,

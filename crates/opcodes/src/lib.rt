@@ -1,4 +1,6 @@
 // The opcodes: a row for each, and what follows from it.
+#![tactic(auto)]
+
 ghost use Rattle.std.specs.Prelude.{◌≡◌};
 ghost use Rattle.opcodes.specs.Opcode.{shape_of, SameShape, opcode_number, opcode_of, has_length, has_answer, data_place};
 
@@ -8,7 +10,7 @@ pub const UNKNOWN_OPCODE: u32 = 11;
 // The reason where the opcode doesn't have the length.
 pub const BAD_LENGTH: u32 = 12;
 
-#[derive(Drop)]
+#[derive(Clone, Copy)]
 pub enum Opcode {
     Write,
     Read,
@@ -35,11 +37,11 @@ const OPCODES: [Opcode; 9] = [
 
 // An opcode's number, how many bytes its payload's numbers take, whether data, of 1 byte or more, follow them, and whether it has an
 // answer.
-#[derive(Drop)]
+#[derive(Clone, Copy)]
 pub struct Shape(pub u32, pub u32, pub bool, pub bool);
 
 // What a number says: an opcode, or none.
-#[derive(Drop)]
+#[derive(Clone, Copy)]
 pub enum Lookup {
     Known(Opcode),
     Unknown,

@@ -5,7 +5,7 @@ ghost use Rattle.recording.specs.Left.{left_from, left_in, Readable, IsRun, Leav
 use crate::form::{ENTRY_HEAD, size_at};
 
 // The bytes of a file from `at` on, up to `past`. There the next entry begins, or the file ends.
-#[derive(Drop)]
+#[derive(Clone, Copy)]
 pub struct Run {
     pub at: usize,
     pub past: usize,

@@ -1,5 +1,7 @@
 // Replays the recording on standard input with stated memories, and prints one line: equal, the place of the first difference, a minus and
 // a refusal's number, or too long.
+#![tactic(auto)]
+
 mod stated;
 
 use crate::stated::{LONGEST, replay_stated};

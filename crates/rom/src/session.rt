@@ -16,7 +16,7 @@ use rom_turn::{send, take};
 use wire::length::{BAD_RAM, is_ram_length};
 
 // Where the actions stopped: waiting for a byte (1) or for room (2), or code runs (3).
-#[derive(Drop)]
+#[derive(Clone, Copy)]
 struct Stop {
     step: Step,
     reason: u32,

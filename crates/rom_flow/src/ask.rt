@@ -5,7 +5,7 @@ use crate::step::{HeaderStep, Step};
 use wire::line::{ACK, NAK, STX};
 
 // A byte of a header; code bytes, with the code's length and the next place; the byte after the XOR.
-#[derive(Drop)]
+#[derive(Clone, Copy)]
 pub enum Taking {
     Header(HeaderStep),
     Code(u32, u32),
@@ -13,14 +13,14 @@ pub enum Taking {
 }
 
 // A byte, and the step that follows it; the XOR of n code bytes.
-#[derive(Drop)]
+#[derive(Clone, Copy)]
 pub enum Sending {
     Byte(u8, Step),
     Xor(u32),
 }
 
 // Bytes to take, something to send, or nothing since code runs.
-#[derive(Drop)]
+#[derive(Clone, Copy)]
 pub enum Ask {
     Take(Taking),
     Send(Sending),

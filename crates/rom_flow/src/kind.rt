@@ -5,7 +5,7 @@ ghost use Rattle.rom_flow.specs.Fresh.{fresh_record};
 use machine::{Record, start};
 
 // P: DA14580 in its own note, DA1453x. E: DA1458x, with an extended length.
-#[derive(Drop)]
+#[derive(Clone, Copy)]
 pub enum Kind {
     P,
     E,
@@ -15,7 +15,7 @@ pub enum Kind {
 pub const FIRST_EXTENDED: usize = 65_536;
 
 // A receiver's session, by the number of its kind.
-#[derive(Drop)]
+#[derive(Clone, Copy)]
 pub struct Receiver {
     pub kind: u32,
 }

@@ -4,7 +4,7 @@ ghost use Rattle.std.specs.Prelude.{◌≡◌};
 use wire::unit::RamAddress;
 
 // The steps that take a header: 01, then the bytes of a length. TakeHigh and TakeExtendedHigh have the low byte.
-#[derive(Drop)]
+#[derive(Clone, Copy)]
 pub enum HeaderStep {
     TakeSoh,
     TakeLow,
@@ -14,7 +14,7 @@ pub enum HeaderStep {
 }
 
 // A step of the flow: the header, the code with its length and the next byte's place, its XOR, or code running at an address.
-#[derive(Drop)]
+#[derive(Clone, Copy)]
 pub enum Step {
     SendStx,
     Header(HeaderStep),
@@ -27,7 +27,7 @@ pub enum Step {
 }
 
 // A step together with the last reason.
-#[derive(Drop)]
+#[derive(Clone, Copy)]
 pub struct Progress {
     pub step: Step,
     pub reason: u32,
@@ -43,7 +43,7 @@ pub fn to(step: Step, reason: u32) -> Progress
 }
 
 // The same after `count` bytes were taken, or sent.
-#[derive(Drop)]
+#[derive(Clone, Copy)]
 pub struct Moved {
     pub step: Step,
     pub reason: u32,

@@ -1,4 +1,6 @@
 // The receiver's record: a step in numbers, and back.
+#![tactic(auto)]
+
 ghost use Rattle.std.specs.Prelude.{◌≡◌};
 ghost use Rattle.rom_flow.specs.Fresh.{kind_number};
 ghost use Rattle.rom_record.specs.Record.{header_fields, fields_of, written, sized, extended, running_in, places_of, phase_in, step_in, with_kind, decoded_of};
@@ -9,7 +11,7 @@ use rom_flow::step::{HeaderStep, Step};
 use wire::unit::RamAddress;
 
 // A step in numbers. `held` is the low byte of a length, or the address at which code runs.
-#[derive(Drop)]
+#[derive(Clone, Copy)]
 pub struct Numbers {
     pub phase: u32,
     pub length: u32,
@@ -18,14 +20,14 @@ pub struct Numbers {
 }
 
 // The step that numbers stand for.
-#[derive(Drop)]
+#[derive(Clone, Copy)]
 pub enum Found {
     At(Step),
     Unsound,
 }
 
 // The kind and step that a record stands for.
-#[derive(Drop)]
+#[derive(Clone, Copy)]
 pub enum Decoded {
     Sound(Kind, Step),
     Unsound,

@@ -1,4 +1,6 @@
 // One turn of the receiver: takes or sends what a step asks, code in bulk.
+#![tactic(auto)]
+
 ghost use Rattle.std.specs.Prelude.{◌≡◌, ◌<◌, length};
 ghost use Rattle.machine.specs.Steps.{Taken};
 ghost use Rattle.rom_flow.specs.Ask.{step_of, InRam, SentSo};

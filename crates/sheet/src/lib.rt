@@ -1,4 +1,6 @@
 // An image sheet: a lent file together with the place of its code, for a display.
+#![tactic(auto)]
+
 ghost use Rattle.std.specs.Prelude.{◌≡◌};
 ghost use Rattle.sheet.specs.Sheet.{place_of, code_place, Shows};
 
@@ -9,7 +11,7 @@ use wire::range::{Place, place_in};
 pub const BAD_FILE: u32 = 67;
 
 // Where a file's code lies, with the number 0; or 67 and zeros.
-#[derive(Drop)]
+#[derive(Clone, Copy)]
 pub struct Placed {
     pub number: u32,
     pub place: usize,

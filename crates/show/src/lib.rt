@@ -1,4 +1,6 @@
 // Words, numbers and bytes on standard output, for the programs that run figures.
+#![tactic(auto)]
+
 use libc::STDOUT_FILENO;
 
 pub fn text(bytes: &[u8]) {

@@ -1,4 +1,6 @@
 // The flash slot that will start: the product header names two images, and the newer valid one starts.
+#![tactic(auto)]
+
 pub mod id;
 pub mod product;
 
@@ -15,7 +17,7 @@ pub const NO_IMAGE: u32 = 53;
 
 // The number 0 and slot 1 or 2, or a refusal's number and slot 0.
 #[repr(C)]
-#[derive(Drop)]
+#[derive(Clone, Copy)]
 pub struct Selected {
     pub number: u32,
     pub slot: u32,

@@ -21,7 +21,7 @@ pub const NO_HEADER: u32 = 51;
 pub const WRONG_MARK: u32 = 52;
 
 // What is at an offset of a flash.
-#[derive(Drop)]
+#[derive(Clone, Copy)]
 pub enum Product {
     // A product header: the flash offsets of image 1 and of image 2.
     Images(u32, u32),

@@ -1,5 +1,7 @@
 // Runs figures of version text, flash slots, offers and sheets over the proved code. They are the rows of the file stdin beside
 // src/; each is written again with what the code answers, and that is held to the file stdout.
+#![tactic(auto)]
+
 mod file;
 mod offers;
 mod row;

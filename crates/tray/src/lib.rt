@@ -1,4 +1,6 @@
 // A tray of version fields: the rank of each, in one call.
+#![tactic(auto)]
+
 ghost use Rattle.std.specs.Prelude.{◌≡◌, ◌<◌, ◌≤◌, ◌++◌, ◌∷◌, [], length};
 ghost use Rattle.memory.specs.Store.{laid};
 ghost use Rattle.version.specs.Rank.{rank_length};

@@ -16,7 +16,7 @@ use uartboot_turn::{send, take};
 use wire::length::{BAD_FLASH, BAD_RAM, BAD_WORK, is_flash_length, is_ram_length, is_work_length};
 
 // Where the actions stopped: waiting for a byte (1) or for room (2), or code runs (3).
-#[derive(Drop)]
+#[derive(Clone, Copy)]
 struct Stop {
     step: Step,
     reason: u32,

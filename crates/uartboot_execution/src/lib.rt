@@ -1,4 +1,6 @@
 // A command executed: on the host's byte, or at once where it has no payload; and where the flow goes then.
+#![tactic(auto)]
+
 ghost use Rattle.std.specs.Prelude.{◌≡◌, length};
 ghost use Rattle.command.specs.Payload.{Carried};
 ghost use Rattle.memory.specs.Memories.{memories, Fitting};

@@ -10,7 +10,7 @@ use wire::line::{ACK, NAK};
 
 // A byte of a header; bytes of a payload, with its opcode and length and the next place; the byte on which the command is executed or
 // not; the byte after an answer's length; the low byte of the host's CRC, and the high one with the low one.
-#[derive(Drop)]
+#[derive(Clone, Copy)]
 pub enum Taking {
     Header(HeaderStep),
     Payload(Opcode, u32, u32),
@@ -22,7 +22,7 @@ pub enum Taking {
 
 // A byte, and the step that follows it; the 06 for a header, after which a command without payload is executed; a payload's CRC, with
 // its opcode and length, and its high byte alone; bytes of an answer, with its opcode and length and the next place.
-#[derive(Drop)]
+#[derive(Clone, Copy)]
 pub enum Sending {
     Byte(u8, Step),
     Acceptance(Opcode, u32),
@@ -32,7 +32,7 @@ pub enum Sending {
 }
 
 // Bytes to take, something to send, or nothing since code runs.
-#[derive(Drop)]
+#[derive(Clone, Copy)]
 pub enum Ask {
     Take(Taking),
     Send(Sending),

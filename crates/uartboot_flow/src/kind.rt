@@ -6,7 +6,7 @@ ghost use Rattle.uartboot_flow.specs.Flow.{greeting};
 use machine::{Record, start};
 
 // A uartboot session: what belongs to the session itself.
-#[derive(Drop)]
+#[derive(Clone, Copy)]
 pub struct Uartboot {
     pub kind: u32,
 }

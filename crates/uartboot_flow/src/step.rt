@@ -6,7 +6,7 @@ use opcodes::Opcode;
 use wire::unit::RamAddress;
 
 // The steps that take a header. What it has brought: the opcode's number, and the low byte of the length.
-#[derive(Drop)]
+#[derive(Clone, Copy)]
 pub enum HeaderStep {
     TakeSoh,
     TakeOpcode,
@@ -16,7 +16,7 @@ pub enum HeaderStep {
 
 // The steps of a command whose header was accepted, up to the host's 06 for the payload's CRC. TakePayload has the place of the next
 // byte.
-#[derive(Drop)]
+#[derive(Clone, Copy)]
 pub enum CommandStep {
     SendAck,
     TakePayload(u32),
@@ -27,7 +27,7 @@ pub enum CommandStep {
 }
 
 // The steps of an answer. SendAnswer has the place of the next byte, TakeCrcHigh the low byte of the host's CRC.
-#[derive(Drop)]
+#[derive(Clone, Copy)]
 pub enum AnswerStep {
     SendLengthLow,
     SendLengthHigh,
@@ -40,7 +40,7 @@ pub enum AnswerStep {
 
 // A step of the flow: the greeting's next byte, a header, a command with its opcode and payload length, an answer with its opcode
 // and length, the 15 of a refusal, or code running at an address.
-#[derive(Drop)]
+#[derive(Clone, Copy)]
 pub enum Step {
     Greeting(u32),
     Header(HeaderStep),
@@ -51,7 +51,7 @@ pub enum Step {
 }
 
 // A step together with the last reason.
-#[derive(Drop)]
+#[derive(Clone, Copy)]
 pub struct Progress {
     pub step: Step,
     pub reason: u32,
@@ -67,7 +67,7 @@ pub fn to(step: Step, reason: u32) -> Progress
 }
 
 // The same after `count` bytes were taken, or sent.
-#[derive(Drop)]
+#[derive(Clone, Copy)]
 pub struct Moved {
     pub step: Step,
     pub reason: u32,

@@ -1,4 +1,6 @@
 // The header: its bytes, and the tests after its last one.
+#![tactic(auto)]
+
 ghost use Rattle.std.specs.Prelude.{◌≡◌, true, length};
 ghost use Rattle.wire.specs.Length.{is_work_length};
 ghost use Rattle.opcodes.specs.Opcode.{opcode_of};

@@ -1,4 +1,6 @@
 // The record of a uartboot session: a step in numbers, and back.
+#![tactic(auto)]
+
 ghost use Rattle.std.specs.Prelude.{◌≡◌};
 ghost use Rattle.uartboot_record.specs.Record.{fields, header_numbers, command_numbers, answer_numbers, numbers_of, written, places_of, plain_step, payload_step, command_in, answer_step, answer_in, running_in, phase_in, decoded_of};
 
@@ -9,7 +11,7 @@ use uartboot_flow::step::{AnswerStep, CommandStep, HeaderStep, Step};
 use wire::unit::RamAddress;
 
 // A step in numbers. `held` is a low byte, or the address at which code runs.
-#[derive(Drop)]
+#[derive(Clone, Copy)]
 pub struct Numbers {
     pub phase: u32,
     pub opcode: u32,
@@ -19,7 +21,7 @@ pub struct Numbers {
 }
 
 // The step that numbers stand for, or that there is none.
-#[derive(Drop)]
+#[derive(Clone, Copy)]
 pub enum Found {
     At(Step),
     Unsound,

@@ -1,4 +1,6 @@
 // One turn of the session: takes or sends what a step asks, in bulk where it is a payload, its CRC or an answer.
+#![tactic(auto)]
+
 ghost use Rattle.std.specs.Prelude.{◌≡◌, ◌<◌, length};
 ghost use Rattle.machine.specs.Steps.{Taken};
 ghost use Rattle.memory.specs.Memories.{memories};

@@ -6,7 +6,7 @@ ghost use Rattle.version.specs.Decimal.{decimal_at};
 // The largest number in a version.
 const LARGEST: u32 = 65_535;
 
-#[derive(Drop)]
+#[derive(Clone, Copy)]
 pub enum Decimal {
     // Its value, and the place after its last digit.
     Written(u32, usize),

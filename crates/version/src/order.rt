@@ -5,7 +5,7 @@ ghost use Rattle.version.specs.Order.{compared, compared_fields, order_of};
 use crate::rank::{MALFORMED, Rank, rank};
 
 // How a version compares with another.
-#[derive(Drop)]
+#[derive(Clone, Copy)]
 pub enum Comparison {
     Lower,
     Same,
@@ -50,7 +50,7 @@ pub fn compare_fields(a: &[u8], b: &[u8]) -> Comparison
 
 // An order, -1, 0 or 1, with the number 0; or order 0 with 61.
 #[repr(C)]
-#[derive(Drop)]
+#[derive(Clone, Copy)]
 pub struct Ordered {
     pub number: u32,
     pub order: i32,

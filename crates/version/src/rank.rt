@@ -19,7 +19,7 @@ pub type Rank = [u32; NUMBERS];
 
 // A rank with the number 0, or 61 and a rank of zeros.
 #[repr(C)]
-#[derive(Drop)]
+#[derive(Clone, Copy)]
 pub struct Ranked {
     pub number: u32,
     pub rank: Rank,

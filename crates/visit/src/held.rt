@@ -8,7 +8,7 @@ use recording::form::DEVICE;
 use recording::run::{Run, go_on};
 
 // How far the comparison has come: the bytes that are next, how many agreed, and whether all so far did.
-#[derive(Drop)]
+#[derive(Clone, Copy)]
 pub struct Held {
     pub run: Run,
     pub place: usize,

@@ -1,4 +1,6 @@
 // A recorded visit replayed: the host's bytes go to a fresh uartboot session, and its replies are held to the device's bytes.
+#![tactic(auto)]
+
 ghost use Rattle.std.specs.Prelude.{◌≡◌};
 ghost use Rattle.memory.specs.Memories.{memories};
 ghost use Rattle.visit.specs.Played.{Answers};
@@ -14,7 +16,7 @@ pub mod play;
 
 // What a replay gives: equal 1 and place 0; equal 0 and the place of the first difference; or a refusal's number and zeros.
 #[repr(C)]
-#[derive(Drop)]
+#[derive(Clone, Copy)]
 pub struct Replayed {
     pub number: u32,
     pub equal: u32,

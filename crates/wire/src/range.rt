@@ -3,7 +3,7 @@ ghost use Rattle.std.specs.Prelude.{◌≡◌};
 ghost use Rattle.wire.specs.Range.{place_in};
 
 // Where a range begins in its memory.
-#[derive(Drop)]
+#[derive(Clone, Copy)]
 pub enum Place {
     // The range lies wholly in the memory; the index there at which it begins.
     Inside(usize),

@@ -8,11 +8,11 @@ use crate::range::{Place, place_in};
 pub const RAM_BASE: u32 = 0x07FC_0000;
 
 // An address in RAM.
-#[derive(Drop)]
+#[derive(Clone, Copy)]
 pub struct RamAddress(pub u32);
 
 // An offset in flash, from 0.
-#[derive(Drop)]
+#[derive(Clone, Copy)]
 pub struct FlashOffset(pub u32);
 
 impl RamAddress {
