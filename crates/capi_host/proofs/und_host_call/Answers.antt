@@ -1,0 +1,11 @@
+-- `capi_host::und_host_call`: what C gets is the host's result.
+-- Assumes nothing.
+use Rattle.called.proofs.Boundary.{handed-back}
+use Rattle.host.specs.Session.{host_session}
+use Rattle.host_command.specs.Exchange.{lent}
+use Rattle.capi_host.proofs.und_host_call.Goals as goal
+
+pub returns : goal.returns
+returns c =
+    handed-back host_session c.args.words.now (lent c.args.opcode c.args.payload.now c.args.answer.now) c.args.input.now c.args.output.now
+    _ c.record_of.ensures _ _ _ c.call-report.ensures _ _ c.hand_back.ensures

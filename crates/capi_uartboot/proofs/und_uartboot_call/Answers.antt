@@ -1,0 +1,11 @@
+-- `capi_uartboot::und_uartboot_call`: what C gets is the session's result.
+-- Assumes nothing.
+use Rattle.memory.specs.Memories.{memories}
+use Rattle.uartboot.specs.Session.{uartboot}
+use Rattle.called.proofs.Boundary.{handed-back}
+use Rattle.capi_uartboot.proofs.und_uartboot_call.Goals as goal
+
+pub returns : goal.returns
+returns c =
+    handed-back uartboot c.args.words.now (memories c.args.ram.now c.args.flash.now c.args.work.now) c.args.input.now c.args.reply.now
+    _ c.record_of.ensures _ _ _ c.call-report.ensures _ _ c.hand_back.ensures

@@ -1,0 +1,13 @@
+-- `crc::crc16::after`: in each turn one byte more is taken.
+-- Assumes nothing.
+use Prim.Native.Nat.{◌-◌}
+use lib.ListN.{length}
+use Rattle.crc.specs.Rule.{rule16}
+use Rattle.crc.proofs.Turns.{Bytes}
+use Rattle.crc.proofs.crc16.after.Given as goal
+
+abbrev pub invariant-loop-i : goal.invariant-loop-i
+invariant-loop-i l = Bytes rule16 l.register l.bytes l.i l.q
+
+abbrev pub decreases-loop-i : goal.decreases-loop-i
+decreases-loop-i l = length l.bytes - l.i

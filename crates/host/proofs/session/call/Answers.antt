@@ -1,0 +1,17 @@
+-- `host::session::call`: the refusals in order, and what the loop gives written out.
+-- Assumes nothing.
+use Rattle.host.proofs.Calls.{bad-command, bad-record, ready, went}
+use mathlib.Core.Path.{refl, sym, ◌∙◌}
+use Rattle.host.proofs.session.call.Goals as goal
+
+pub act-end-requires : goal.act-end-requires
+act-end-requires c = ready _ _ _ _ (sym c.judge.ensures ∙ c.in-Accepted.is) _ _ (sym c.decode.ensures ∙ c.in-At.is)
+
+pub returns-in-Refused : goal.returns-in-Refused
+returns-in-Refused c = bad-command _ _ _ _ _ _ (sym c.judge.ensures ∙ c.in-Refused.is) c.refused.ensures
+
+pub returns-in-Unsound : goal.returns-in-Unsound
+returns-in-Unsound c = bad-record _ _ _ _ _ _ (sym c.judge.ensures ∙ c.in-Accepted.is) (sym c.decode.ensures ∙ c.in-Unsound.is) c.refused-in-Unsound.ensures
+
+pub returns-in-At : goal.returns-in-At
+returns-in-At c = went _ _ _ _ (sym c.judge.ensures ∙ c.in-Accepted.is) _ _ _ _ _ (sym c.decode.ensures ∙ c.in-At.is) _ _ _ _ _ _ _ c.act-end.ensures (rw c.encode.ensures refl)

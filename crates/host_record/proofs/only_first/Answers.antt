@@ -1,0 +1,10 @@
+-- `host_record::only_first`: by the test.
+-- Assumes nothing.
+use borrow.Author.Tests.{eq-eqb, ne_eqb}
+use Rattle.host_record.proofs.only_first.Goals as goal
+
+pub returns-then-size-eq0 : goal.returns-then-size-eq0
+returns-then-size-eq0 c = simp (eq-eqb _ _ c.if-size-eq0.true)
+
+pub returns-else-size-eq0 : goal.returns-else-size-eq0
+returns-else-size-eq0 c = simp (ne_eqb _ _ c.if-size-eq0.false)

@@ -1,0 +1,10 @@
+-- `rom_turn::code::took_ack`: by the test.
+-- Assumes nothing.
+use borrow.Author.Tests.{eq-eqb, ne_eqb}
+use Rattle.rom_turn.proofs.code.took_ack.Goals as goal
+
+pub returns-then-byte-eq-ACK : goal.returns-then-byte-eq-ACK
+returns-then-byte-eq-ACK c = record { is = λ kind ram. simp (c.to.ensures, eq-eqb _ _ c.if-byte-eq-ACK.true) }
+
+pub returns-else-byte-eq-ACK : goal.returns-else-byte-eq-ACK
+returns-else-byte-eq-ACK c = record { is = λ kind ram. simp (c.to-else-byte-eq-ACK.ensures, ne_eqb _ _ c.if-byte-eq-ACK.false) }

@@ -1,0 +1,13 @@
+-- `uartboot::session::act`: each turn of the loop is takes or sends of the machine, and where it returns the machine has stopped.
+-- Assumes nothing.
+use Rattle.memory.specs.Memories.{memories}
+use Rattle.uartboot.proofs.Turns.{At}
+use lib.ListN.{length}
+use Prim.Native.Nat.{◌+◌, ◌-◌}
+use Rattle.uartboot.proofs.session.act.Given as goal
+
+abbrev pub invariant-loop-taking : goal.invariant-loop-taking
+invariant-loop-taking l = At l.initial.step l.initial.noted (memories l.initial.ram l.initial.flash l.initial.work) l.input l.initial.reply l.step l.noted (memories l.ram l.flash l.work) l.reply l.i l.j
+
+abbrev pub decreases-loop-taking : goal.decreases-loop-taking
+decreases-loop-taking l = length l.input - l.i + (length l.reply - l.j)

@@ -1,0 +1,10 @@
+-- `uartboot_answer::answer::showed`: by the test.
+-- Assumes nothing.
+use borrow.Author.Tests.{lt-ltb, le-ltb}
+use Rattle.uartboot_answer.proofs.answer.showed.Goals as goal
+
+pub returns-then-count-size : goal.returns-then-count-size
+returns-then-count-size c = simp (lt-ltb _ _ c.if-count-size.true)
+
+pub returns-else-count-size : goal.returns-else-count-size
+returns-else-count-size c = simp (le-ltb _ _ c.if-count-size.false)

@@ -1,0 +1,11 @@
+-- `uartboot_execution::take_go`: by the test.
+-- Assumes nothing.
+use borrow.Author.Tests.{eq-eqb, ne_eqb}
+use Rattle.uartboot_execution.proofs.take_go.Goals as goal
+
+pub returns-then-byte-eq-ACK : goal.returns-then-byte-eq-ACK
+returns-then-byte-eq-ACK c =
+    simp (c.go.ensures, eq-eqb _ _ c.if-byte-eq-ACK.true)
+
+pub returns-else-byte-eq-ACK : goal.returns-else-byte-eq-ACK
+returns-else-byte-eq-ACK c = simp (c.to.ensures, ne_eqb _ _ c.if-byte-eq-ACK.false)

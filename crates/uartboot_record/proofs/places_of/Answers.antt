@@ -1,0 +1,16 @@
+-- `uartboot_record::places_of`: by the phase.
+-- Assumes nothing.
+use borrow.Author.Tests.{ne_eqb}
+use Rattle.uartboot_record.proofs.places_of.Goals as goal
+
+pub returns-in-0 : goal.returns-in-0
+returns-in-0 c = simp c.in-0.is
+
+pub returns-in-6 : goal.returns-in-6
+returns-in-6 c = simp c.in-6.is
+
+pub returns-in-14 : goal.returns-in-14
+returns-in-14 c = simp c.in-14.is
+
+pub returns-in_default : goal.returns-in_default
+returns-in_default c = simp (ne_eqb _ _ c.in-0.rest.1, ne_eqb _ _ c.in-0.rest.0.1, ne_eqb _ _ c.in-0.rest.0.0.1)

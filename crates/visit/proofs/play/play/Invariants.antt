@@ -1,0 +1,11 @@
+-- `visit::play::play`: what is still to come after a call is what was still to come before it, less what it gave.
+-- Assumes nothing.
+use Rattle.memory.specs.Memories.{memories}
+use Rattle.visit.proofs.Playing.{effort, Playing}
+use Rattle.visit.proofs.play.play.Given as goal
+
+abbrev pub invariant-loop-room : goal.invariant-loop-room
+invariant-loop-room l = Playing l.file (memories l.initial.ram l.initial.flash l.initial.work) l.session (memories l.ram l.flash l.work) l.host l.held l.room
+
+abbrev pub decreases-loop-room : goal.decreases-loop-room
+decreases-loop-room l = effort l.file l.session (memories l.ram l.flash l.work) l.host
