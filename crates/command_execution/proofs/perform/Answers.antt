@@ -31,13 +31,13 @@ slice_bounds-lay-count c =
     let h = ready c.requires c.in-Write.is in
     search rules
 
-pub UNKNOWN-slice-bounds-lay-start : goal.UNKNOWN-slice-bounds-lay-start
-UNKNOWN-slice-bounds-lay-start c =
+pub slice_bounds-lay-start : goal.slice_bounds-lay-start
+slice_bounds-lay-start c =
     let h = ready c.requires c.in-Write.is in
     search rules
 
-pub UNKNOWN-slice-bounds-lay-end-2 : goal.UNKNOWN-slice-bounds-lay-end-2
-UNKNOWN-slice-bounds-lay-end-2 c =
+pub slice_bounds-lay-end-in-Write : goal.slice_bounds-lay-end-in-Write
+slice_bounds-lay-end-in-Write c =
     let h = ready c.requires c.in-Write.is in
     search rules
 
@@ -81,8 +81,8 @@ overflow_add-end-in-DirectWrite c =
     let h = ready c.requires c.in-DirectWrite.is in
     search rules
 
-pub UNKNOWN-slice-bounds-direct-write-end : goal.UNKNOWN-slice-bounds-direct-write-end
-UNKNOWN-slice-bounds-direct-write-end c =
+pub slice_bounds-direct_write-end : goal.slice_bounds-direct_write-end
+slice_bounds-direct_write-end c =
     let h = ready c.requires c.in-DirectWrite.is in
     search rules
 

@@ -24,8 +24,8 @@ slice_bounds-lay-count c =
     ∙ laid-length (header_of c.args.kind (length c.args.code.now)) c.args.out.now (omega (arith, room)) in
     omega (arith, headed, room)
 
-pub UNKNOWN-slice-bounds-lay-start : goal.UNKNOWN-slice-bounds-lay-start
-UNKNOWN-slice-bounds-lay-start c =
+pub slice_bounds-lay-start : goal.slice_bounds-lay-start
+slice_bounds-lay-start c =
     let room : let a = c.args in length (header_of a.kind (length a.code.now)) + length a.code.now + 1 ≤ length a.out.now = rw (frame-length c.args.kind c.args.code.now) c.requires.1 in
     let headed : length c.put_header.new.out ≡ length c.args.out.now = ap length c.put_header.ensures
     ∙ laid-length (header_of c.args.kind (length c.args.code.now)) c.args.out.now (omega (arith, room)) in

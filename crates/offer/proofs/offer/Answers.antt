@@ -14,27 +14,27 @@ overflow_add-result c =
     let candidate : c.judge-offered.result.place + c.judge-offered.result.size ≤ length c.args.candidate.now = simp (eq-eqb _ _ c.if-offered-eq-CANDIDATE.true) at (rw (← c.judge-offered.ensures) at (offer-names c.args.installed.now c.args.candidate.now).inside) in
     omega (arith, candidate)
 
-pub UNKNOWN-slice-bounds-result-end : goal.UNKNOWN-slice-bounds-result-end
-UNKNOWN-slice-bounds-result-end c =
+pub slice_bounds-result-end : goal.slice_bounds-result-end
+slice_bounds-result-end c =
     let candidate : c.judge-offered.result.place + c.judge-offered.result.size ≤ length c.args.candidate.now = simp (eq-eqb _ _ c.if-offered-eq-CANDIDATE.true) at (rw (← c.judge-offered.ensures) at (offer-names c.args.installed.now c.args.candidate.now).inside) in
     omega (arith, candidate)
 
 pub returns-then-offered-eq-CANDIDATE : goal.returns-then-offered-eq-CANDIDATE
 returns-then-offered-eq-CANDIDATE c =
     rw (← c.judge-offered.ensures)
-    (simp (eq-eqb _ _ c.if-offered-eq-CANDIDATE.true) (part-taken c.args.candidate c.judge-offered.result.place c.judge-offered.result.size c.result-1.given.0, refl))
+    (simp (eq-eqb _ _ c.if-offered-eq-CANDIDATE.true) (part-taken c.args.candidate c.judge-offered.result.place c.judge-offered.result.size, refl))
 
 pub overflow_add-result-2 : goal.overflow_add-result-2
 overflow_add-result-2 c =
     let installed : c.judge-offered.result.place + c.judge-offered.result.size ≤ length c.args.installed.now = simp (ne_eqb _ _ c.if-offered-eq-CANDIDATE.false) at (rw (← c.judge-offered.ensures) at (offer-names c.args.installed.now c.args.candidate.now).inside) in
     omega (arith, installed)
 
-pub UNKNOWN-slice-bounds-result-end-2 : goal.UNKNOWN-slice-bounds-result-end-2
-UNKNOWN-slice-bounds-result-end-2 c =
+pub slice_bounds-result-end-2 : goal.slice_bounds-result-end-2
+slice_bounds-result-end-2 c =
     let installed : c.judge-offered.result.place + c.judge-offered.result.size ≤ length c.args.installed.now = simp (ne_eqb _ _ c.if-offered-eq-CANDIDATE.false) at (rw (← c.judge-offered.ensures) at (offer-names c.args.installed.now c.args.candidate.now).inside) in
     omega (arith, installed)
 
 pub returns : goal.returns
 returns c =
     rw (← c.judge-offered.ensures)
-    (simp (ne_eqb _ _ c.if-offered-eq-CANDIDATE.false) (part-taken c.args.installed c.judge-offered.result.place c.judge-offered.result.size c.result-2-1.given.0, refl))
+    (simp (ne_eqb _ _ c.if-offered-eq-CANDIDATE.false) (part-taken c.args.installed c.judge-offered.result.place c.judge-offered.result.size, refl))

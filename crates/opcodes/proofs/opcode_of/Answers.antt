@@ -39,4 +39,4 @@ loop-i-preserved c =
 pub returns : goal.returns
 returns c =
     let end : c.loop-i.i ≡ length opcodes = omega arith in
-    rw end c c.loop-i.invariant.1
+    rw end at c.loop-i.invariant.1

@@ -15,7 +15,7 @@ pub returns-in_default : goal.returns-in_default
 unfolding lies_from
 returns-in_default c =
     let over = lies-outside c.args.place c.place_of-placed.result.size 0 (length c.args.file.now) (sym c.place_in.ensures ∙ c.in_default.is) in
-    simp (rw c.place_of-placed.ensures at over) (part-taken c.args.file 0 0 c.result-1.given.0)
+    simp (rw c.place_of-placed.ensures at over) (part-taken c.args.file 0 0)
 
 pub overflow_add-result : goal.overflow_add-result
 overflow_add-result c =
@@ -23,8 +23,8 @@ overflow_add-result c =
     let inside : c.args.place + c.place_of-placed.result.size ≤ length c.args.file.now = lies-fits _ _ _ lies in
     omega (arith, inside)
 
-pub UNKNOWN-slice-bounds-result-end-2 : goal.UNKNOWN-slice-bounds-result-end-2
-UNKNOWN-slice-bounds-result-end-2 c =
+pub slice_bounds-result-end-2 : goal.slice_bounds-result-end-2
+slice_bounds-result-end-2 c =
     let lies : lies_in c.args.place c.place_of-placed.result.size 0 (length c.args.file.now) ≡ true = lies-inside c.args.place c.place_of-placed.result.size 0 (length c.args.file.now) c.in-Inside.field-0 (sym c.place_in.ensures ∙ c.in-Inside.is) in
     let inside : c.args.place + c.place_of-placed.result.size ≤ length c.args.file.now = lies-fits _ _ _ lies in
     omega (arith, inside)
@@ -33,4 +33,4 @@ pub returns : goal.returns
 unfolding lies_from
 returns c =
     let lies : lies_in c.args.place c.place_of-placed.result.size 0 (length c.args.file.now) ≡ true = lies-inside c.args.place c.place_of-placed.result.size 0 (length c.args.file.now) c.in-Inside.field-0 (sym c.place_in.ensures ∙ c.in-Inside.is) in
-    rw (← c.place_of-placed.ensures) (simp lies (part-taken c.args.file c.args.place c.place_of-placed.result.size c.result-2-1.given.0))
+    rw (← c.place_of-placed.ensures) (simp lies (part-taken c.args.file c.args.place c.place_of-placed.result.size))

@@ -28,8 +28,8 @@ overflow_mul-to c = omega arith
 pub slice_bounds-rank-count : goal.slice_bounds-rank-count
 slice_bounds-rank-count c = omega arith
 
-pub UNKNOWN-slice-bounds-rank-end : goal.UNKNOWN-slice-bounds-rank-end
-UNKNOWN-slice-bounds-rank-end c = omega arith
+pub slice_bounds-rank-end : goal.slice_bounds-rank-end
+slice_bounds-rank-end c = omega arith
 
 pub offset_bounds-ranks-to : goal.offset_bounds-ranks-to
 offset_bounds-ranks-to c = omega arith

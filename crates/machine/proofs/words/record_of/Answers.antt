@@ -8,5 +8,5 @@ use Rattle.machine.proofs.words.record_of.Goals as goal
 
 pub returns : goal.returns
 returns c =
-    let l : length c.args.t1 ≡ 8 = omega arith in
-    (refl, sym (words_back c.args.t1 l))
+    let l : length c.args.words ≡ 8 = omega arith in
+    record { value = refl; result_value = sym (words_back c.args.words l) }

@@ -5,8 +5,8 @@ use native.Mathlib.Omega.{arith}
 use Rattle.memory.proofs.Flashes.{sectors-in, erased-part}
 use Rattle.memory.proofs.flash.erase.Goals as goal
 
-pub UNKNOWN-slice-bounds-wipe-end : goal.UNKNOWN-slice-bounds-wipe-end
-UNKNOWN-slice-bounds-wipe-end c = omega (arith, sectors-in c.args.offset c.args.size c.args.flash.now c.requires)
+pub slice_bounds-wipe-end : goal.slice_bounds-wipe-end
+slice_bounds-wipe-end c = omega (arith, sectors-in c.args.offset c.args.size c.args.flash.now c.requires)
 
 pub returns : goal.returns
 returns c =

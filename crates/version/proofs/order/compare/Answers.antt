@@ -25,18 +25,18 @@ loop-place-init c = (search rules, search rules, search rules, refl)
 
 pub returns-then-x-y : goal.returns-then-x-y
 returns-then-x-y c =
-    sym (decided c.args.t1 c.args.t2 c.loop-place.place (omega arith) (omega arith) c.loop-place.invariant.3 ∙ simp (lt-ltb _ _ c.if-x-y.true))
+    sym (decided c.args.a c.args.b c.loop-place.place (omega arith) (omega arith) c.loop-place.invariant.3 ∙ simp (lt-ltb _ _ c.if-x-y.true))
 
 pub returns-then-y-x : goal.returns-then-y-x
 returns-then-y-x c =
-    sym (decided c.args.t1 c.args.t2 c.loop-place.place (omega arith) (omega arith) c.loop-place.invariant.3 ∙ simp (le-ltb _ _ c.if-x-y.false, lt-ltb _ _ c.if-y-x.true))
+    sym (decided c.args.a c.args.b c.loop-place.place (omega arith) (omega arith) c.loop-place.invariant.3 ∙ simp (le-ltb _ _ c.if-x-y.false, lt-ltb _ _ c.if-y-x.true))
 
 pub loop-place-preserved : goal.loop-place-preserved
 loop-place-preserved c =
-    let e = decided c.args.t1 c.args.t2 c.loop-place.place (omega arith) (omega arith) c.loop-place.invariant.3 in
+    let e = decided c.args.a c.args.b c.loop-place.place (omega arith) (omega arith) c.loop-place.invariant.3 in
     (omega arith, c.loop-place.invariant.1, c.loop-place.invariant.2, sym (e ∙ simp (le-ltb _ _ c.if-x-y.false, le-ltb _ _ c.if-y-x.false)))
 
 pub returns : goal.returns
 returns c =
-    let h : length c.args.t1 ≤ c.loop-place.place = omega arith in
-    rw (drop_of_length-le c.args.t1 h) at c.loop-place.invariant.3
+    let h : length c.args.a ≤ c.loop-place.place = omega arith in
+    rw (drop_of_length-le c.args.a h) at c.loop-place.invariant.3

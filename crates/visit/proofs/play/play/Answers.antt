@@ -21,8 +21,8 @@ loop-room-init c =
 pub slice_bounds-call-count : goal.slice_bounds-call-count
 slice_bounds-call-count c = omega (arith, c.loop-room.invariant.is-host.order)
 
-pub UNKNOWN-slice-bounds-call-end : goal.UNKNOWN-slice-bounds-call-end
-UNKNOWN-slice-bounds-call-end c = omega (arith, c.loop-room.invariant.is-host.readable.inside)
+pub slice_bounds-call-end : goal.slice_bounds-call-end
+slice_bounds-call-end c = omega (arith, c.loop-room.invariant.is-host.readable.inside)
 
 pub call-report-requires : goal.call-report-requires
 call-report-requires c = tt
