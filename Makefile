@@ -22,29 +22,30 @@ all: lib $(BUILD)/undalisho
 lib: $(ARCHIVE) $(BUILD)/undalisho.pc
 
 # The crates whose functions C calls: capi, and those whose names begin with capi_. Each gives an archive with one object.
-CAPI := $(shell sed -nE 's/^(capi(_\w+)?):.*/\1/p' crates.txt)
-PARTS := $(CAPI:%=target/staticlib/lib%.a)
+CAPI := $(shell sed -nE 's/^(capi(_\w+)?) +staticlib:.*/\1/p' crates.txt)
+PARTS := $(CAPI:%=$(BUILD)/parts/lib%.a)
 
-used_by = $(shell sed -n 's/^$(1)://p' crates.txt)
-rlibs_of = $(addsuffix .rlib,$(addprefix target/rlib/,$(1)))
-USED := $(sort $(foreach crate,$(CAPI),$(call used_by,$(crate))))
-
-# rt check knows what is up to date, and proves crates side by side. rt staticlib does neither. So it comes second, and only
-# where the check has proved anew what the crate uses, or the crate itself has changed.
-$(call rlibs_of,$(USED)) &: force
-	rt check $(USED)
+# What a crate is made of: the files of its own, and of all that it uses. crates.txt has what a crate uses above it.
+below = $(shell tac crates.txt | tr -d : | awk -v crate=$(1) 'BEGIN { used[crate] } $$1 in used { print "crates/" $$1; for (i = 2; i <= NF; i++) used[$$i] }')
+sources_of = $(shell find $(call below,$(1)) \( -name out -o -name must-fail \) -prune -o -type f -print)
 
 .SECONDEXPANSION:
-$(PARTS): target/staticlib/lib%.a: $$(call rlibs_of,$$(call used_by,$$*)) $$(shell find crates/$$* -type f)
-	rt staticlib $*
+$(PARTS): $(BUILD)/parts/lib%.a: $$(call sources_of,$$*) $(BUILD)/toolchain crates.txt | $(BUILD)/parts
+	cd crates/$* && rt lib
+	@cp crates/$*/out/lib$*.a $@
 
 # The objects share no name: in each, all symbols but its functions for C are local. A file whose content stays the same is
 # not touched, so that nothing is made anew from it.
-$(BUILD)/libundalisho.a: $(PARTS) crates.txt | $(BUILD)
-	@rm -rf $(BUILD)/parts && mkdir $(BUILD)/parts
-	@for part in $(PARTS); do (cd $(BUILD)/parts && ar x $(CURDIR)/$$part) || exit 1; done
-	@cd $(BUILD)/parts && ar rcsD libundalisho.a $(CAPI:%=%.o)
-	@cmp -s $(BUILD)/parts/libundalisho.a $@ || cp $(BUILD)/parts/libundalisho.a $@
+$(BUILD)/libundalisho.a: $(PARTS)
+	@rm -rf $(BUILD)/objects && mkdir $(BUILD)/objects
+	@for part in $(PARTS); do (cd $(BUILD)/objects && ar x $(CURDIR)/$$part) || exit 1; done
+	@cd $(BUILD)/objects && ar rcsD libundalisho.a $(CAPI:%=%.o)
+	@cmp -s $(BUILD)/objects/libundalisho.a $@ || cp $(BUILD)/objects/libundalisho.a $@
+
+# A newer toolchain builds all anew.
+$(BUILD)/toolchain: force | $(BUILD)
+	@rt version > $@.new
+	@if cmp -s $@.new $@; then rm $@.new; else mv $@.new $@; fi
 
 $(BUILD)/undalisho.pc: undalisho.pc.in force | $(BUILD)
 	@sed -e 's|@VERSION@|$(VERSION)|' -e 's|@PREFIX@|$(PREFIX)|' -e 's|@INCLUDEDIR@|$(INCLUDEDIR)|' \
@@ -63,7 +64,7 @@ $(BUILD)/undalisho: $(wildcard $(TOOL:%=%/*.[ch])) include/undalisho.h $(ARCHIVE
 demo: all
 	@$(BUILD)/undalisho demo
 
-$(BUILD):
+$(BUILD) $(BUILD)/parts:
 	@mkdir -p $@
 
 install: all

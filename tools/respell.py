@@ -3,10 +3,10 @@
 
 usage: tools/respell.py [FOLDER]
 
-Run once, after /opt/rattle/port/port.py. A definition, field, constructor or label that a file of specs/ declares gets plain underscores, as
-'definition-stops' and 'standingOf' become 'definition_stops' and 'standing_of'. A lemma of proofs/ keeps its dashes, which join names, and
-the names within it are turned, as 'crcOf-append' becomes 'crc_of-append'. Types and modules, Rust's own names, comments, strings and the
-names that Rattle makes stay. Code spans of the pages in docs/ follow; the notes in docs/landings tell of what was, and stay.
+Run once, after /opt/rattle/port/port.py. A definition, field, constructor or label that a file of specs/ declares gets plain underscores,
+as 'definition-stops' and 'standingOf' become 'definition_stops' and 'standing_of'. A lemma of proofs/ keeps its dashes, which join names,
+and the names within it are turned, as 'crcOf-append' becomes 'crc_of-append'. Types and modules, Rust's own names, comments, strings and
+the names that Rattle makes stay. Code spans of the pages in docs/ follow; the notes in docs/landings tell of what was, and stay.
 """
 
 import glob

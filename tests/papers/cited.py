@@ -4,7 +4,7 @@ import re
 from tree import BLOCK, NAME, anchors, declared, links, named
 
 # What begins so, in a paper's backticks, is a path.
-PATH = re.compile(r"(?:crates|tests|tool|docs|include|bench|\.ci)/[\w.*/{},-]*|(?:README|CONTRIBUTING)\.md|Makefile|crates\.txt")
+PATH = re.compile(r"(?:crates|tests|tool|tools|docs|include|bench|\.ci)/[\w.*/{},-]*|(?:README|CONTRIBUTING)\.md|Makefile|crates\.txt")
 FOR_C = re.compile(r"\b(?:und|UND)_\w+\b")
 
 

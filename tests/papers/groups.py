@@ -13,7 +13,7 @@ def groups(text):
 
 
 def wrong(tree):
-    uses = {name: used.split() for name, used in re.findall(r"^(\w+):(.*)$", tree.text(CRATES), re.M)}
+    uses = {name: used.split() for name, used in re.findall(r"^(\w+)(?: staticlib)?:(.*)$", tree.text(CRATES), re.M)}
     level = {}
     for number, names in enumerate(groups(tree.text(README))):
         for name in names:

@@ -4,7 +4,7 @@ import re
 from tree import links
 
 DESIGN, HEADING = "docs/DESIGN.md", "## In which order to read `specs/`\n"
-USE = re.compile(r"^use Rattle·(\w+?)(?:·specs)?\.specs\.(?!declared)(\w+)", re.M)
+USE = re.compile(r"^use Rattle\.(?!std\.)(\w+)\.specs\.(?!declared)(\w+)", re.M)
 
 
 def order(text):

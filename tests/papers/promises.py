@@ -56,6 +56,12 @@ def listed(tree):
                 yield routine, heading, beside[place if len(beside) == len(routines) else 0] if beside else None
 
 
+def clauses(said):
+    """A contract without the function's name and parameters, which may be called as a definition is."""
+    found = re.search(r"\b(?:requires|ensures)\b", said)
+    return said[found.start():] if found else ""
+
+
 def says(text, name):
     return re.search(rf"(?<![\w-]){re.escape(name)}(?![\w-])", text) is not None
 
@@ -66,7 +72,7 @@ def wrong_row(routine, said, heading, beside):
         yield f"{PROMISES}: {name} of {path} asks something of its caller"
     if heading in OUTSIDE and not beside:
         yield f"{PROMISES}: no definition beside {name} of {path}"
-    if beside and not says(said, beside):
+    if beside and not says(clauses(said), beside):
         yield f"{PROMISES}: the contract of {name} of {path} does not name {beside}"
 
 

@@ -66,7 +66,8 @@ def wrong_definitions(tree, found):
 
 
 def wrong_citations(tree, found):
-    patterns = ("crates/**/*.antt", "crates/**/*.rt", "crates/**/*.py", "include/*.h", "tool/**/*.[ch]", "tests/**/*.[ch]", "tests/**/*.py")
+    patterns = ("crates/*/specs/**/*.antt", "crates/*/proofs/**/*.antt", "crates/*/src/**/*.rt", "crates/*/*.py", "include/*.h",
+                "tool/**/*.[ch]", "tests/**/*.[ch]", "tests/**/*.py")
     for path in [*(path for pattern in patterns for path in tree.glob(pattern)), *tree.papers]:
         if not path.startswith("tests/papers/"):
             yield from (f"{path}: there are no rules, {place}" for place in citations(tree.text(path), found) if place not in found)

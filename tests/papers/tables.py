@@ -26,14 +26,9 @@ def rows(text):
             yield None, None, None, line, None
 
 
-def camel(name):
-    first, *others = name.lower().split("_")
-    return first + "".join(word.capitalize() for word in others)
-
-
 def defined(tree):
     """By file and name, each number of two or three digits that a definition has and the program uses by the same name."""
-    used = {camel(name) for path in tree.glob("crates/*/src/**/*.rt") for name in re.findall(r"const (\w+): u32", tree.text(path))}
+    used = {name.lower() for path in tree.glob("crates/*/src/**/*.rt") for name in re.findall(r"const (\w+): u32", tree.text(path))}
     return {(path, name): int(value) for path in tree.glob("crates/*/specs/*.antt")
             for name, value in re.findall(r"^(\w+) = (\d{2,3})$", tree.text(path), re.M) if name in used}
 

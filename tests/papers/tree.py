@@ -10,6 +10,7 @@ BLOCK = re.compile(r"^```.*?^```$", re.M | re.S)
 DEFINED = re.compile(r"^ *(?:abbrev |unfoldable )?(?:pub )?(?:record |data )?((?:[^\s:(){}]+ )+)(?:[({].*)?:(?:\s|$)", re.M)
 WRITTEN = re.compile(r"\b(?:fn|struct|enum|const|mod) (\w+)|^ +([A-Z]\w*)(?=[(,])|^impl (\w+)", re.M)
 DECLARED = re.compile(r"\b(und_\w+)\(|\b(UND_\w+) =|^\} (und_\w+);", re.M)
+PORT = re.compile(r"(?:docs/)?PORT[\w-]*\.md")
 METHOD = re.compile(r"^impl (\w+) \{\n(.*?)^\}", re.M | re.S)
 
 
@@ -39,8 +40,10 @@ class Tree:
 
     @cached_property
     def papers(self):
-        """What people read: landing notes are history, and only their links are held to what is there."""
-        return [*self.glob("*.md"), *self.glob("docs/*.md"), *self.glob("docs/landings/*.md")]
+        """What people read: landing notes are history, and only their links are held to what is there. The pages on the port have the old
+        spelling beside the new, and are not held to anything."""
+        found = [*self.glob("*.md"), *self.glob("docs/*.md"), *self.glob("docs/landings/*.md")]
+        return [path for path in found if not PORT.fullmatch(path)]
 
     @cached_property
     def living(self):
