@@ -35,8 +35,8 @@ PARAMETERS = {
 # The C name of each Rattle number.
 NUMBERS = {"u8": "uint8_t", "u32": "uint32_t", "i32": "int32_t", "usize": "size_t"}
 
-EXPORTED = r'#\[no_mangle\]\s*pub extern "C" fn (\w+)\s*\(([^()]*)\)\s*(?:->\s*(.+?)\s*)?(?=\brequires\b|\bensures\b|\{)'
-STRUCT = r"#\[repr\(C\)\]\s*pub struct %s\s*\{([^{}]*)\}"
+EXPORTED = r'#\[unsafe\(no_mangle\)\]\s*pub extern "C" fn (\w+)\s*\(([^()]*)\)\s*(?:->\s*(.+?)\s*)?(?=\brequires\b|\bensures\b|\{)'
+STRUCT = r"#\[repr\(C\)\]\s*(?:#\[derive\([^()]*\)\]\s*)?pub struct %s\s*\{([^{}]*)\}"
 ALIAS = r"\btype %s\s*=\s*(\[[^\[\]]*\]|\w+)\s*;"
 CONSTANT = r"\bconst %s\s*:\s*usize\s*=\s*([\d_]+)\s*;"
 ARRAY = r"\[(\w+); (\w+)\]"
@@ -84,7 +84,7 @@ class Source:
         """The item of this name, here or where a use line says, with its file."""
         if found := re.search(pattern % name, self.text):
             return found[1], self
-        used = re.search(rf"^use ([\w:]+)::{name};", self.text, re.MULTILINE)
+        used = re.search(rf"^use ([\w:]+)::(?:{name}|\{{(?:[^{{}};]*[\s,])?{name}(?:,[^{{}};]*|\s*)\}});", self.text, re.MULTILINE)
         if not used:
             raise Unknown(f"{self.path}: '{name}' is neither defined here in a form that is known, nor in a use line")
         crate, *modules = used[1].split("::")
@@ -151,7 +151,7 @@ def exported_of(source):
     """The functions of one crate that C calls, and the structs that they give back."""
     found = re.findall(EXPORTED, source.text, re.DOTALL)
     if not found or {len(found)} != {source.text.count('extern "C"'), source.text.count("no_mangle")}:
-        raise Unknown(f'{source.path}: not every extern "C" has the form \'#[no_mangle] pub extern "C" fn NAME(..)\'')
+        raise Unknown(f'{source.path}: not every extern "C" has the form \'#[unsafe(no_mangle)] pub extern "C" fn NAME(..)\'')
     functions = []
     for name, parameters, kind in found:
         given = [c for text in parameters.split(",") if text.strip() for c in parameters_of(text, name, source)]

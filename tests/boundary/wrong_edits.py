@@ -217,7 +217,7 @@ EDITS = {
          "conflicting types for 'und_rank'"),
         ("unknown reference", "field: &[u8]", "field: &u8", "the parameter 'field: &u8' has a type that is not known"),
         ("unknown result", ") -> Ranked", ") -> bool", "the result type 'bool' is not known"),
-        ("function that has no name for C", '#[no_mangle]\npub extern "C" fn und_rank', 'pub extern "C" fn und_rank',
+        ("function that has no name for C", '#[unsafe(no_mangle)]\npub extern "C" fn und_rank', 'pub extern "C" fn und_rank',
          'not every extern "C" has the form'),
         ("function renamed", "fn und_rank(", "fn und_ranks(", "lacks .'function und_ranks'."),
     ],
@@ -233,7 +233,8 @@ EDITS = {
     ],
     CAPI_ROM: [
         ("unknown parameter", "kind: u32,", "kind: u128,", "the parameter 'kind: u128' has a type that is not known"),
-        ("report of its own", "use called::Called;", "#[repr(C)]\npub struct Called {\n    pub number: u32,\n}",
+        ("report of its own", "use called::{Called, hand_back};",
+         "use called::hand_back;\n\n#[repr(C)]\npub struct Called {\n    pub number: u32,\n}",
          "two structs 'Called' that differ"),
     ],
     CAPI_UARTBOOT: [
