@@ -22,7 +22,7 @@ slice_bounds-result-end c =
 pub returns-then-offered-eq-CANDIDATE : goal.returns-then-offered-eq-CANDIDATE
 returns-then-offered-eq-CANDIDATE c =
     rw (← c.judge-offered.ensures)
-    (simp (eq-eqb _ _ c.if-offered-eq-CANDIDATE.true) (part-taken c.args.candidate c.judge-offered.result.place c.judge-offered.result.size, refl))
+    (simp (eq-eqb _ _ c.if-offered-eq-CANDIDATE.true) (record { hands_back = part-taken c.args.candidate c.judge-offered.result.place c.judge-offered.result.size; number_after = refl }))
 
 pub overflow_add-result-2 : goal.overflow_add-result-2
 overflow_add-result-2 c =
@@ -37,4 +37,4 @@ slice_bounds-result-end-2 c =
 pub returns : goal.returns
 returns c =
     rw (← c.judge-offered.ensures)
-    (simp (ne_eqb _ _ c.if-offered-eq-CANDIDATE.false) (part-taken c.args.installed c.judge-offered.result.place c.judge-offered.result.size, refl))
+    (simp (ne_eqb _ _ c.if-offered-eq-CANDIDATE.false) (record { hands_back = part-taken c.args.installed c.judge-offered.result.place c.judge-offered.result.size; number_after = refl }))
