@@ -28,7 +28,7 @@ unfolding after after_byte placed
 after-lt r [] small h = h
 after-lt r (b ∷ bytes) small h =
     let byte : b < 2 ^ 32 = omega (arith, small.0) in
-    after-lt _ bytes small.1 (bits-lt 8 (bit_xor r b) (xor_lt 32 r b h byte))
+    after-lt (after_byte rule32 r b) bytes small.1 (bits-lt 8 (bit_xor r b) (xor_lt 32 r b h byte))
 
 pub crc-lt : (bytes : List ℕ) → Bytes bytes → crc_of rule32 bytes < 2 ^ 32
 unfolding crc_of

@@ -1,3 +1,4 @@
 pub mod Fields
 pub mod Checksums
 pub mod Made
+pub mod Outcomes

@@ -73,6 +73,7 @@ fn header_bytes(id: u8, size: u32, crc: u32, version: &[u8], time: u32) -> [u8; 
 }
 
 // The image header of a code, with which it is a valid image.
+#[tactic(auto, using(crate::proofs::Outcomes::outcomes))]
 pub fn image_header(code: &[u8], id: u8, version: &[u8], time: u32) -> ImageHeader
     ensures { result ≡ image_header_of code.now id version.now time }
 {

@@ -18,7 +18,7 @@ pub struct Placed {
     pub size: usize,
 }
 
-#[derive(Drop)]
+#[derive(Clone, Copy)]
 pub struct Sheet<'a> {
     pub file: &'a [u8],
     pub place: usize,
