@@ -9,10 +9,11 @@ use lib.ListN.{length, take, drop, length-append}
 use lib.Seq.{length-take-le, drop-nil}
 use borrow.Author.Tests.{ltb-true, ltb-false}
 use borrow.Table.Steps.{cases}
-use Rattle.memory.specs.Memories.{Memories, SameLengths}
+use Rattle.memory.specs.Memories.{Memories, memories, SameLengths}
 use Rattle.machine.specs.Session.{Result, result_of}
 use Rattle.machine.specs.Listing.{Given}
 use Rattle.machine.specs.declared.Record.{Record}
+use Rattle.machine.specs.declared.Report.{Report}
 use Rattle.uartboot.specs.Session as device
 use Rattle.uartboot_flow.specs.Fresh.{fresh_record}
 use Rattle.sessions.specs.Kind.{uartboot}
@@ -98,6 +99,18 @@ pub record Turn (file : List ℕ) (m₀ : Memories) (session : Record) (mem : Me
   pub leaves : Leaves host_kind file (host.at + a.report.taken) (drop a.report.taken (left_in host_kind file host)) host'
   pub keeps : SameLengths a.memories mem
   pub long : length a.reply ≡ length room
+
+-- from what the program's calls say of their values
+pub turned : {file : List ℕ} {m₀ : Memories} {session : Record} {mem : Memories} {host : Run} {held : Held} {room : List ℕ}
+    → Playing file m₀ session mem host held room
+    → (report : Report) (reply ram flash work : List ℕ)
+    → record { report = report; reply = reply; memories = memories ram flash work } ≡ result_of device.uartboot session mem (take (host.past - host.at) (drop host.at file)) room
+    → (held' : Held) → Holds file held (take report.sent reply) held'
+    → (host' : Run) → Leaves host_kind file (host.at + report.taken) (drop report.taken (left_in host_kind file host)) host'
+    → length ram ≡ length mem.ram → length flash ≡ length mem.flash → length work ≡ length mem.work → length reply ≡ length room
+    → Turn file m₀ session mem host held room (record { report = report; reply = reply; memories = memories ram flash work }) held' host'
+turned p report reply ram flash work is held' holds host' leaves same_ram same_flash same_work long =
+    record { going = p; is = is; holds = holds; leaves = leaves; keeps = record { same_ram = same_ram; same_flash = same_flash; same_work = same_work }; long = long }
 
 module _ {file : List ℕ} {m₀ : Memories} {session : Record} {mem : Memories} {host : Run} {held : Held} {room : List ℕ} {a : Result Memories} {held' : Held} {host' : Run}
     (t : Turn file m₀ session mem host held room a held' host') where
