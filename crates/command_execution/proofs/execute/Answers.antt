@@ -9,11 +9,11 @@ use Rattle.command_execution.proofs.execute.Goals as goal
 
 pub perform-requires : goal.perform-requires
 perform-requires c =
-    let end = data-end-in c.args.opcode c.args.count c.args.work.now c.requires.0.has_length in
+    let end = data-end-in c.args.opcode c.args.count c.args.work.now c.requires.carried.has_length in
     record {
       passes = sym c.check-reason.ensures ∙ c.if-reason-eq0.true;
-      data_in = rw c.command_of-command.ensures (le_trans end c.requires.0.in_work);
-      fitting = c.requires.1;
+      data_in = rw c.command_of-command.ensures (le_trans end c.requires.carried.in_work);
+      fitting = c.requires.fitting;
     }
 
 pub returns-then-reason-eq0 : goal.returns-then-reason-eq0

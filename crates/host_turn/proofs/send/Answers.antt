@@ -8,22 +8,22 @@ use Rattle.host_turn.proofs.send.Goals as goal
 
 pub send_payload-requires : goal.send_payload-requires
 send_payload-requires c =
-    let fits = rw c.in-Payload.is at c.requires.0 in
-    (fits.0, fits.1, c.requires.1)
+    let fits = rw c.in-Payload.is at c.requires.fits_sending in
+    (fits.0, fits.1, c.requires.j_in_bounds)
 
 pub send_crc-requires : goal.send_crc-requires
 send_crc-requires c =
-    let fits = rw c.in-Crc.is at c.requires.0 in
-    rw c.awaited_of-awaited.ensures (fits, c.requires.1)
+    let fits = rw c.in-Crc.is at c.requires.fits_sending in
+    rw c.awaited_of-awaited.ensures (fits, c.requires.j_in_bounds)
 
 pub send_crc_high-requires : goal.send_crc_high-requires
 send_crc_high-requires c =
-    let fits = rw c.in-CrcHigh.is at c.requires.0 in
-    rw c.awaited_of-awaited.ensures (fits, c.requires.1)
+    let fits = rw c.in-CrcHigh.is at c.requires.fits_sending in
+    rw c.awaited_of-awaited.ensures (fits, c.requires.j_in_bounds)
 
 pub returns-in-Byte : goal.returns-in-Byte
 returns-in-Byte c =
-    record { is = λ opcode s known so. sends-one _ _ s _ _ ((rw c.in-Byte.is at so).is _ _ known) _ _ c.requires.1 _ c.to.ensures _ c.one.ensures }
+    record { is = λ opcode s known so. sends-one _ _ s _ _ ((rw c.in-Byte.is at so).is _ _ known) _ _ c.requires.j_in_bounds _ c.to.ensures _ c.one.ensures }
 
 pub returns-in-Payload : goal.returns-in-Payload
 returns-in-Payload c =

@@ -4,7 +4,7 @@ use Rattle.host.proofs.Turns.{begins, same-output, same_answer, ready-to-take, t
 use Rattle.host.proofs.session.act.Goals as goal
 
 pub loop-taking-init : goal.loop-taking-init
-loop-taking-init c = begins c.requires.0 c.requires.1
+loop-taking-init c = begins c.requires.payload_value c.requires.ready
 
 pub shape_of-output-then-i-input : goal.shape_of-output-then-i-input
 shape_of-output-then-i-input c = same-output c.loop-taking.invariant

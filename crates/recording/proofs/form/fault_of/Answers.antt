@@ -27,7 +27,7 @@ pub returns-then-fault-ne0-2 : goal.returns-then-fault-ne0-2
 returns-then-fault-ne0-2 c =
     let rest = drop c.loop-place.place c.args.file.now in
     let there = some-there c.args.file.now c.loop-place.place c.loop-place-test.true in
-    c.entry_fault-fault.ensures ∙ sym (c.loop-place.invariant ∙ fault-here rest there (rw c.entry_fault-fault.ensures c.loop-place c.if-fault-ne0-2.true))
+    c.entry_fault-fault.ensures ∙ sym (c.loop-place.invariant ∙ fault-here rest there (rw c.entry_fault-fault.ensures at c.if-fault-ne0-2.true))
 
 pub overflow_add-place : goal.overflow_add-place
 overflow_add-place c =

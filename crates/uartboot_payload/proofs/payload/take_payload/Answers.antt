@@ -5,4 +5,4 @@ use Rattle.uartboot_payload.proofs.payload.take_payload.Goals as goal
 
 pub returns : goal.returns
 returns c =
-    payload-taken _ _ _ _ _ _ _ _ _ _ _ c.requires.1.0 c.requires.0.in_work c.requires.1.1 c.copy_up_to-count.ensures _ c.arrived-after.ensures
+    payload-taken _ _ _ _ _ _ _ _ _ _ _ c.requires.place_lt_size.0 c.requires.carried.in_work c.requires.place_lt_size.1 c.copy_up_to-count.ensures _ c.arrived-after.ensures
