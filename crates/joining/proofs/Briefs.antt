@@ -5,7 +5,7 @@ use native.Mathlib.Omega.{arith}
 use mathlib.Core.List.{List, [], ◌∷◌}
 use lib.ListN.{length}
 use Rattle.machine.specs.Machine.{Need, line_says, line}
-use Rattle.machine.specs.Does.{Does, line_of}
+use Rattle.machine.specs.Does.{Does, byte_of, line_of}
 use Rattle.joining.specs.Diligence.{Brief}
 
 pub says-brief : {S : Type 0} (byte : S → ℕ) (s : S) (view : List ℕ) → length (line_says byte s view) ≤ 1
@@ -16,4 +16,4 @@ pub line-brief : {S : Type 0} (need : S → Need) (took : S → ℕ → S) (byte
 line-brief need took byte sent due s view = says-brief byte s view
 
 pub does-brief : {S : Type 0} (does : S → Does ℕ S) (due : S → ℕ) → Brief (line_of does due)
-does-brief does due s view = says-brief _ s view
+does-brief does due s view = says-brief (λ s. byte_of (does s)) s view

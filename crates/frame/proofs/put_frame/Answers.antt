@@ -58,6 +58,7 @@ bounds-out-place c =
 
 pub shape_of-out : goal.shape_of-out
 shape_of-out c =
+    let room : let a = c.args in length (header_of a.kind (length a.code.now)) + length a.code.now + 1 ≤ length a.out.now = rw (frame-length c.args.kind c.args.code.now) c.requires.1 in
     let coded : let a = c.args in
     let place = c.header_length-place.result in
     let before = c.put_header.new.out in

@@ -1,7 +1,8 @@
 -- `host_record::step_of`: phase by phase.
 -- Assumes nothing.
 use Rattle.host_record.specs.Record.{step_of}
-use borrow.Author.Tests.{ne_eqb}
+use native.Mathlib.Omega.{arith}
+use Rattle.std.proofs.lemmas.Grind.{common_steps}
 use Rattle.host_record.proofs.step_of.Goals as goal
 
 pub returns-in-0 : goal.returns-in-0
@@ -74,4 +75,4 @@ returns-in-16 c = simp c.in-16.is
 
 pub returns-in_default : goal.returns-in_default
 unfolding step_of
-returns-in_default c = simp (ne_eqb _ _ c.in-0.rest.0.0.0.0.0.0.0.0.0.0.0.0.0.0.0.0.1, ne_eqb _ _ c.in-0.rest.0.0.0.0.0.0.0.0.0.0.0.0.0.0.0.1, ne_eqb _ _ c.in-0.rest.0.0.0.0.0.0.0.0.0.0.0.0.0.0.1, ne_eqb _ _ c.in-0.rest.0.0.0.0.0.0.0.0.0.0.0.0.0.1, ne_eqb _ _ c.in-0.rest.0.0.0.0.0.0.0.0.0.0.0.0.1, ne_eqb _ _ c.in-0.rest.0.0.0.0.0.0.0.0.0.0.0.1, ne_eqb _ _ c.in-0.rest.0.0.0.0.0.0.0.0.0.0.1, ne_eqb _ _ c.in-0.rest.0.0.0.0.0.0.0.0.0.1, ne_eqb _ _ c.in-0.rest.0.0.0.0.0.0.0.0.1, ne_eqb _ _ c.in-0.rest.0.0.0.0.0.0.0.1, ne_eqb _ _ c.in-0.rest.0.0.0.0.0.0.1, ne_eqb _ _ c.in-0.rest.0.0.0.0.0.1, ne_eqb _ _ c.in-0.rest.0.0.0.0.1, ne_eqb _ _ c.in-0.rest.0.0.0.1, ne_eqb _ _ c.in-0.rest.0.0.1, ne_eqb _ _ c.in-0.rest.0.1, ne_eqb _ _ c.in-0.rest.1)
+returns-in_default c = grind (arith, common_steps)

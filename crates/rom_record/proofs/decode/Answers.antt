@@ -1,6 +1,7 @@
 -- `rom_record::decode`: by the kind's number.
 -- Assumes nothing.
-use borrow.Author.Tests.{ne_eqb}
+use native.Mathlib.Omega.{arith}
+use Rattle.std.proofs.lemmas.Grind.{common_steps}
 use Rattle.rom_record.specs.Record.{decoded_of}
 use Rattle.rom_record.proofs.decode.Goals as goal
 
@@ -14,4 +15,4 @@ returns-in-1 c = simp (c.with_kind-in-1.ensures, c.step_in-in-1.ensures, c.field
 
 pub returns-in_default : goal.returns-in_default
 unfolding decoded_of
-returns-in_default c = simp (ne_eqb _ _ c.in-0.rest.0.1, ne_eqb _ _ c.in-0.rest.1)
+returns-in_default c = grind (arith, common_steps)

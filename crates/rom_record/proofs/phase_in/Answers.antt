@@ -1,7 +1,8 @@
 -- `rom_record::phase_in`: a phase's step, and none for a number that is no phase.
 -- Assumes nothing.
 use mathlib.Core.Path.{◌∙◌}
-use borrow.Author.Tests.{ne_eqb}
+use native.Mathlib.Omega.{arith}
+use Rattle.std.proofs.lemmas.Grind.{common_steps}
 use Rattle.rom_record.specs.Record.{phase_in}
 use Rattle.rom_record.proofs.phase_in.Goals as goal
 
@@ -55,18 +56,4 @@ returns-in-11 c = c.running_in.ensures ∙ simp c.in-11.is
 
 pub returns-in_default : goal.returns-in_default
 unfolding phase_in
-returns-in_default c =
-    simp (
-      ne_eqb _ _ c.in-0.rest.1,
-      ne_eqb _ _ c.in-0.rest.0.1,
-      ne_eqb _ _ c.in-0.rest.0.0.1,
-      ne_eqb _ _ c.in-0.rest.0.0.0.1,
-      ne_eqb _ _ c.in-0.rest.0.0.0.0.1,
-      ne_eqb _ _ c.in-0.rest.0.0.0.0.0.1,
-      ne_eqb _ _ c.in-0.rest.0.0.0.0.0.0.1,
-      ne_eqb _ _ c.in-0.rest.0.0.0.0.0.0.0.1,
-      ne_eqb _ _ c.in-0.rest.0.0.0.0.0.0.0.0.1,
-      ne_eqb _ _ c.in-0.rest.0.0.0.0.0.0.0.0.0.1,
-      ne_eqb _ _ c.in-0.rest.0.0.0.0.0.0.0.0.0.0.1,
-      ne_eqb _ _ c.in-0.rest.0.0.0.0.0.0.0.0.0.0.0.1,
-    )
+returns-in_default c = grind (arith, common_steps)

@@ -10,7 +10,7 @@ use Rattle.tray.proofs.Entries.{first_entries}
 use Rattle.tray.proofs.put_entries.Given as goal
 
 abbrev pub invariant-loop-field : goal.invariant-loop-field
-invariant-loop-field l = (l.field ≤ l.field_end) × (l.field_end ≡ length l.fields / field_length) × (l.field_end * entry_length ≤ length l.initial.ranks) × (length l.ranks ≡ length l.initial.ranks) × (l.ranks ≡ laid (first_entries l.field l.fields) l.initial.ranks)
+invariant-loop-field l = (l.field ≤ l.field-end) × (l.field-end ≡ length l.fields / field_length) × (l.field-end * entry_length ≤ length l.initial.ranks) × (length l.ranks ≡ length l.initial.ranks) × (l.ranks ≡ laid (first_entries l.field l.fields) l.initial.ranks)
 
 abbrev pub decreases-loop-field : goal.decreases-loop-field
-decreases-loop-field l = l.field_end - l.field
+decreases-loop-field l = l.field-end - l.field

@@ -20,14 +20,3 @@ returns-in-15 c = simp c.in-15.is
 
 pub returns-in-16 : goal.returns-in-16
 returns-in-16 c = simp c.in-16.is
-
-pub returns-in_default : goal.returns-in_default
-returns-in_default c =
-    simp (
-      ne_eqb _ _ c.in-11.rest.1,
-      ne_eqb _ _ c.in-11.rest.0.1,
-      ne_eqb _ _ c.in-11.rest.0.0.1,
-      ne_eqb _ _ c.in-11.rest.0.0.0.1,
-      ne_eqb _ _ c.in-11.rest.0.0.0.0.1,
-      ne_eqb _ _ c.in-11.rest.0.0.0.0.0.1,
-    )

@@ -14,12 +14,3 @@ returns-in-8 c = simp c.in-8.is
 
 pub returns-in-9 : goal.returns-in-9
 returns-in-9 c = simp c.in-9.is
-
-pub returns-in_default : goal.returns-in_default
-returns-in_default c =
-    simp (
-      ne_eqb _ _ c.in-6.rest.1,
-      ne_eqb _ _ c.in-6.rest.0.1,
-      ne_eqb _ _ c.in-6.rest.0.0.1,
-      ne_eqb _ _ c.in-6.rest.0.0.0.1,
-    )

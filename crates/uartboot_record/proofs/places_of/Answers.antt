@@ -11,6 +11,3 @@ returns-in-6 c = simp c.in-6.is
 
 pub returns-in-14 : goal.returns-in-14
 returns-in-14 c = simp c.in-14.is
-
-pub returns-in_default : goal.returns-in_default
-returns-in_default c = simp (ne_eqb _ _ c.in-0.rest.1, ne_eqb _ _ c.in-0.rest.0.1, ne_eqb _ _ c.in-0.rest.0.0.1)

@@ -14,12 +14,3 @@ returns-in-2 c = simp c.in-2.is
 
 pub returns-in-3 : goal.returns-in-3
 returns-in-3 c = simp c.in-3.is
-
-pub returns-in_default : goal.returns-in_default
-returns-in_default c =
-    simp (
-      ne_eqb _ _ c.in-0.rest.1,
-      ne_eqb _ _ c.in-0.rest.0.1,
-      ne_eqb _ _ c.in-0.rest.0.0.1,
-      ne_eqb _ _ c.in-0.rest.0.0.0.1,
-    )

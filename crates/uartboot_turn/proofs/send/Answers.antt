@@ -5,7 +5,7 @@ use mathlib.Core.Path.{refl}
 use Rattle.uartboot_turn.proofs.send.Goals as goal
 
 pub accept-requires : goal.accept-requires
-accept-requires c = let h = rw c.in-Acceptance.is at c.requires.ready_to in (h.step_sound.0, h.fitting)
+accept-requires c = let h = rw c.in-Acceptance.is at c.requires.ready_to in record { carried = h.step_sound.0; fitting = h.fitting }
 
 pub send_crc-requires : goal.send_crc-requires
 send_crc-requires c = ((rw c.in-Crc.is at c.requires.ready_to).step_sound.0.in_work, c.requires.j_in_bounds)

@@ -4,7 +4,7 @@ use Rattle.uartboot_turn.proofs.Ones.{takes_one}
 use Rattle.uartboot_turn.proofs.take.Goals as goal
 
 pub take_payload-requires : goal.take_payload-requires
-take_payload-requires c = let h = rw c.in-Payload.is at c.requires.ready.step_sound in (h.0, (h.1, c.requires.i_in_bounds))
+take_payload-requires c = let h = rw c.in-Payload.is at c.requires.ready.step_sound in record { carried = h.0; place_lt_size = (h.1, c.requires.i_in_bounds) }
 
 pub take_go-requires : goal.take_go-requires
 take_go-requires c =
