@@ -24,7 +24,7 @@ use Rattle.host_record.specs.declared.Found.{Found}
 use Rattle.host_record.specs.declared.Found.TheVariants.{At, Unsound}
 use Rattle.host_record.specs.Record.{written, decoded_of}
 use Rattle.host_record.proofs.Records.{decoded-sound}
-use Rattle.host.specs.Session.{read_of, host_session, result}
+use Rattle.host.specs.Session.{read_of, host_session, given_back}
 
 -- a command that is judged is refused with its number, or accepted with what is known from it
 pub refused-with : (c : Lent) (n : ℕ) → judged_of c ≡ Refused n → (n ≡ refusal_of c) × (refusal_of c ≡ 0 → ⊥)
@@ -47,7 +47,7 @@ unfolding exchange_of
 same_opcode c x e = ap (λ (y : Exchange). y.opcode) e
 
 module _ (session : Record) (input output : List ℕ) (c : Lent) (r : Report) where
-  pub bad-command : (n : ℕ) → judged_of c ≡ Refused n → r ≡ refused_report n session → result r output c ≡ result_of host_session session c input output
+  pub bad-command : (n : ℕ) → judged_of c ≡ Refused n → r ≡ refused_report n session → given_back r output c ≡ result_of host_session session c input output
   bad-command n e q =
       let why = refused-with c n e in
       refused-length host_session session c input output r n why.0 (λ z. why.1 (sym why.0 ∙ z)) q
@@ -62,13 +62,13 @@ module _ (session : Record) (input output : List ℕ) (c : Lent) (r : Report) wh
     read_as : (d : Found) → decoded_of x session ≡ d → host_session.read session c ≡ read_of d session.reason c
     read_as d f = rw (known, f) refl
 
-    pub bad-record : decoded_of x session ≡ Unsound → r ≡ refused_report bad_record session → result r output c ≡ result_of host_session session c input output
+    pub bad-record : decoded_of x session ≡ Unsound → r ≡ refused_report bad_record session → given_back r output c ≡ result_of host_session session c input output
     bad-record f q = refused-record host_session session c input output r fits (read_as Unsound f) q
 
     pub good : (s : Step) → decoded_of x session ≡ At s → (taken sent stands : ℕ) (last : Step) (reason : ℕ) (output' : List ℕ) (c' : Lent) →
         Acted host (state s session.reason c) input output taken sent stands (state last reason c') output' →
         r ≡ record { number = 0; standing = stands; taken = taken; sent = sent; session = written last reason } →
-        result r output' c' ≡ result_of host_session session c input output
+        given_back r output' c' ≡ result_of host_session session c input output
     good s f taken sent stands last reason output' c' a q =
         accepted-call host_session session c input output r fits (state s session.reason c) (read_as (At s) f) taken sent stands (state last reason c') output' a q
 
@@ -86,6 +86,6 @@ module _ (opcode : ℕ) (payload answer : List ℕ) (x : Exchange) (e : judged_o
       (taken sent stands : ℕ) (last : Step) (reason : ℕ) (output' answer' : List ℕ) →
       Acted host (state s session.reason (lent x.opcode payload answer)) input output taken sent stands (state last reason (lent x.opcode payload answer')) output' →
       r ≡ record { number = 0; standing = stands; taken = taken; sent = sent; session = written last reason } →
-      result r output' (lent opcode payload answer') ≡ result_of host_session session (lent opcode payload answer) input output
+      given_back r output' (lent opcode payload answer') ≡ result_of host_session session (lent opcode payload answer) input output
   went session input output r s f taken sent stands last reason output' answer' a q =
       good session input output (lent opcode payload answer) r x e s f taken sent stands last reason output' (lent opcode payload answer') (rw is-opcode a) q

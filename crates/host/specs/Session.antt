@@ -27,5 +27,5 @@ host_session =
     }
 
 -- what a call gives back, with the output and what is lent after it
-abbrev pub result : Report → (output : List ℕ) → Lent → Result Lent
-result report output c = record { report = report; reply = output; memories = c }
+abbrev pub given_back : Report → (output : List ℕ) → Lent → Result Lent
+given_back report output c = record { report = report; reply = output; memories = c }

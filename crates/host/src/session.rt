@@ -6,7 +6,7 @@ ghost use Rattle.host_command.specs.Exchange.{lent, exchange_of};
 ghost use Rattle.host_flow.specs.State.{state};
 ghost use Rattle.host_flow.specs.Host.{host};
 ghost use Rattle.host_flow.specs.Sound.{Ready};
-ghost use Rattle.host.specs.Session.{host_session, result};
+ghost use Rattle.host.specs.Session.{host_session, given_back};
 
 use host_command::{Exchange, Judged, judge};
 use host_flow::ask::{Ask, ask_of};
@@ -26,7 +26,7 @@ struct Stop {
 }
 
 fn stopped(step: Step, reason: u32, taken: usize, sent: usize, standing: u32) -> Stop
-    ensures* { λ r. ⌜ r ≡ record { step = step; reason = reason; taken = taken; sent = sent; standing = standing } ⌝ }
+    ensures { result ≡ record { step = step; reason = reason; taken = taken; sent = sent; standing = standing } }
 {
     Stop {
         step: step,
@@ -49,7 +49,7 @@ fn act(
 ) -> Stop
     requires payload_value { exchange_of x.opcode payload.now ≡ x }
     requires ready { Ready first (lent x.opcode payload.now answer.old) }
-    ensures* { λ r. ⌜ Acted host (state first reason (lent x.opcode payload.now answer.old)) input.now output.old r.taken r.sent r.standing (state r.step r.reason (lent x.opcode payload.now answer.new)) output.new ⌝ }
+    ensures { Acted host (state first reason (lent x.opcode payload.now answer.old)) input.now output.old result.taken result.sent result.standing (state result.step result.reason (lent x.opcode payload.now answer.new)) output.new }
 {
     let mut step = first;
     let mut noted = reason;
@@ -100,7 +100,7 @@ pub fn call(
     output: &mut [u8],
     answer: &mut [u8],
 ) -> Report
-    ensures* { λ r. ⌜ result r output.new (lent opcode payload.now answer.new) ≡ result_of host_session session (lent opcode payload.now answer.old) input.now output.old ⌝ }
+    ensures { given_back result output.new (lent opcode payload.now answer.new) ≡ result_of host_session session (lent opcode payload.now answer.old) input.now output.old }
 {
     match judge(opcode, payload, answer) {
         Judged::Refused(number) => refused(number, session),

@@ -7,7 +7,7 @@ use crate::Record;
 // The record that eight words make.
 pub fn record_of(words: [u32; 8]) -> Record
     ensures value { result ≡ record_of words }
-    ensures result_value { words_of result ≡ words }
+    ensures words_back { words_of result ≡ words }
 {
     Record {
         kind: words[0],

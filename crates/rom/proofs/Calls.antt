@@ -20,20 +20,20 @@ use Rattle.rom_record.specs.declared.Decoded.TheVariants.{Sound, Unsound}
 use Rattle.rom_flow.specs.State.{state}
 use Rattle.rom_flow.specs.Receiver.{receiver}
 use Rattle.rom_record.specs.Record.{written, decoded_of}
-use Rattle.rom.specs.Session.{read_of, rom, result}
+use Rattle.rom.specs.Session.{read_of, rom, given_back}
 
 module _ (session : Record) (input reply ram : List ℕ) (r : Report) where
-  pub bad-length : is_ram_length (length ram) ≡ false → r ≡ refused_report bad_ram session → result r reply ram ≡ result_of rom session ram input reply
+  pub bad-length : is_ram_length (length ram) ≡ false → r ≡ refused_report bad_ram session → given_back r reply ram ≡ result_of rom session ram input reply
   bad-length e q = refused-length rom session ram input reply r bad_ram (rw e refl) (λ z. omega arith) q
 
   module _ (fits : is_ram_length (length ram) ≡ true) where
-    pub bad-record : decoded_of (length ram) session ≡ Unsound → r ≡ refused_report bad_record session → result r reply ram ≡ result_of rom session ram input reply
+    pub bad-record : decoded_of (length ram) session ≡ Unsound → r ≡ refused_report bad_record session → given_back r reply ram ≡ result_of rom session ram input reply
     bad-record e q = refused-record rom session ram input reply r (rw fits refl) (ap (λ (d : Decoded). read_of d session.reason ram) e) q
 
     pub good : (kind : Kind) (s : Step) → decoded_of (length ram) session ≡ Sound kind s → (taken sent stands : ℕ) (last : Step) (reason : ℕ) (reply' ram' : List ℕ) →
         Acted receiver (state kind s session.reason ram) input reply taken sent stands (state kind last reason ram') reply' →
         r ≡ record { number = 0; standing = stands; taken = taken; sent = sent; session = written kind last reason } →
-        result r reply' ram' ≡ result_of rom session ram input reply
+        given_back r reply' ram' ≡ result_of rom session ram input reply
     good kind s e taken sent stands last reason reply' ram' a q =
         accepted-call rom session ram input reply r (rw fits refl) (state kind s session.reason ram) (ap (λ (d : Decoded). read_of d session.reason ram) e)
         taken sent stands (state kind last reason ram') reply' a q

@@ -25,5 +25,5 @@ rom =
     }
 
 -- what a call gives back, with the reply and the RAM after it
-abbrev pub result : Report → (reply ram : List ℕ) → Result (List ℕ)
-result report reply ram = record { report = report; reply = reply; memories = ram }
+abbrev pub given_back : Report → (reply ram : List ℕ) → Result (List ℕ)
+given_back report reply ram = record { report = report; reply = reply; memories = ram }

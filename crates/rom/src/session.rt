@@ -4,7 +4,7 @@ ghost use Rattle.machine.specs.Loop.{Acted};
 ghost use Rattle.machine.specs.Session.{result_of};
 ghost use Rattle.rom_flow.specs.Receiver.{receiver};
 ghost use Rattle.rom_flow.specs.State.{state};
-ghost use Rattle.rom.specs.Session.{rom, result};
+ghost use Rattle.rom.specs.Session.{rom, given_back};
 ghost use Rattle.rom_flow.specs.Sound.{Ready};
 
 use machine::{BAD_RECORD, Record, Report, advance, refused};
@@ -26,7 +26,7 @@ struct Stop {
 }
 
 fn stopped(step: Step, reason: u32, taken: usize, sent: usize, standing: u32) -> Stop
-    ensures* { λ r. ⌜ r ≡ record { step = step; reason = reason; taken = taken; sent = sent; standing = standing } ⌝ }
+    ensures { result ≡ record { step = step; reason = reason; taken = taken; sent = sent; standing = standing } }
 {
     Stop {
         step: step,
@@ -40,7 +40,7 @@ fn stopped(step: Step, reason: u32, taken: usize, sent: usize, standing: u32) ->
 // Acts until a byte or room is missing, or code runs.
 fn act(kind: Kind, first: Step, reason: u32, input: &[u8], reply: &mut [u8], ram: &mut [u8]) -> Stop
     requires { Ready kind first ram.old }
-    ensures* { λ r. ⌜ Acted receiver (state kind first reason ram.old) input.now reply.old r.taken r.sent r.standing (state kind r.step r.reason ram.new) reply.new ⌝ }
+    ensures { Acted receiver (state kind first reason ram.old) input.now reply.old result.taken result.sent result.standing (state kind result.step result.reason ram.new) reply.new }
 {
     let mut step = first;
     let mut noted = reason;
@@ -75,7 +75,7 @@ fn act(kind: Kind, first: Step, reason: u32, input: &[u8], reply: &mut [u8], ram
 
 // A call to the session.
 pub fn call(session: Record, input: &[u8], reply: &mut [u8], ram: &mut [u8]) -> Report
-    ensures* { λ r. ⌜ result r reply.new ram.new ≡ result_of rom session ram.old input.now reply.old ⌝ }
+    ensures { given_back result reply.new ram.new ≡ result_of rom session ram.old input.now reply.old }
 {
     let size = ram.len();
     if !is_ram_length(size) {

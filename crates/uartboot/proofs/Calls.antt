@@ -19,7 +19,7 @@ use Rattle.uartboot_flow.specs.Device.{device}
 use Rattle.uartboot_record.specs.declared.Found.{Found}
 use Rattle.uartboot_record.specs.declared.Found.TheVariants.{At, Unsound}
 use Rattle.uartboot_record.specs.Record.{written, decoded_of}
-use Rattle.uartboot.specs.Session.{refusal_of, read_of, uartboot, result}
+use Rattle.uartboot.specs.Session.{refusal_of, read_of, uartboot, given_back}
 
 -- lengths that are not refused
 pub fitting : (ram flash work : ℕ) → refusal_of ram flash work ≡ 0 → Fitting ram flash work
@@ -39,19 +39,19 @@ fitting-accepted ram flash work h = simp (h.work_length, h.ram_length, h.flash_l
 
 module _ (session : Record) (input reply : List ℕ) (m : Memories) (r : Report) where
   pub bad-length : (number : ℕ) → number ≡ refusal_of (length m.ram) (length m.flash) (length m.work) → (number ≡ 0 → ⊥) →
-      r ≡ refused_report number session → result r reply m ≡ result_of uartboot session m input reply
+      r ≡ refused_report number session → given_back r reply m ≡ result_of uartboot session m input reply
   bad-length number e h q = refused-length uartboot session m input reply r number e h q
 
   module _ (fits : refusal_of (length m.ram) (length m.flash) (length m.work) ≡ 0) where
     pub bad-record : decoded_of (length m.ram) (length m.work) session ≡ Unsound → r ≡ refused_report bad_record session →
-        result r reply m ≡ result_of uartboot session m input reply
+        given_back r reply m ≡ result_of uartboot session m input reply
     bad-record e q = refused-record uartboot session m input reply r fits (ap (λ (d : Found). read_of d session.reason m) e) q
 
     pub good : (s : Step) → decoded_of (length m.ram) (length m.work) session ≡ At s →
         (taken sent stands : ℕ) (last : Step) (reason : ℕ) (reply' : List ℕ) (m' : Memories) →
         Acted device (state s session.reason m) input reply taken sent stands (state last reason m') reply' →
         r ≡ record { number = 0; standing = stands; taken = taken; sent = sent; session = written last reason } →
-        result r reply' m' ≡ result_of uartboot session m input reply
+        given_back r reply' m' ≡ result_of uartboot session m input reply
     good s e taken sent stands last reason reply' m' a q =
         accepted-call uartboot session m input reply r fits (state s session.reason m) (ap (λ (d : Found). read_of d session.reason m) e)
         taken sent stands (state last reason m') reply' a q

@@ -34,5 +34,5 @@ uartboot =
     }
 
 -- what a call gives back, with the reply and the memories after it
-abbrev pub result : Report → (reply : List ℕ) → Memories → Result Memories
-result report reply m = record { report = report; reply = reply; memories = m }
+abbrev pub given_back : Report → (reply : List ℕ) → Memories → Result Memories
+given_back report reply m = record { report = report; reply = reply; memories = m }

@@ -6,7 +6,7 @@ ghost use Rattle.memory.specs.Memories.{memories};
 ghost use Rattle.uartboot_flow.specs.State.{state};
 ghost use Rattle.uartboot_flow.specs.Device.{device};
 ghost use Rattle.uartboot_flow.specs.Sound.{Ready};
-ghost use Rattle.uartboot.specs.Session.{refusal_of, uartboot, result};
+ghost use Rattle.uartboot.specs.Session.{refusal_of, uartboot, given_back};
 
 use machine::{BAD_RECORD, Record, Report, advance, refused};
 use uartboot_flow::ask::{Ask, ask_of};
@@ -26,7 +26,7 @@ struct Stop {
 }
 
 fn stopped(step: Step, reason: u32, taken: usize, sent: usize, standing: u32) -> Stop
-    ensures* { λ r. ⌜ r ≡ record { step = step; reason = reason; taken = taken; sent = sent; standing = standing } ⌝ }
+    ensures { result ≡ record { step = step; reason = reason; taken = taken; sent = sent; standing = standing } }
 {
     Stop {
         step: step,
@@ -48,7 +48,7 @@ fn act(
     work: &mut [u8],
 ) -> Stop
     requires { Ready first (memories ram.old flash.old work.old) }
-    ensures* { λ r. ⌜ Acted device (state first reason (memories ram.old flash.old work.old)) input.now reply.old r.taken r.sent r.standing (state r.step r.reason (memories ram.new flash.new work.new)) reply.new ⌝ }
+    ensures { Acted device (state first reason (memories ram.old flash.old work.old)) input.now reply.old result.taken result.sent result.standing (state result.step result.reason (memories ram.new flash.new work.new)) reply.new }
 {
     let mut step = first;
     let mut noted = reason;
@@ -83,7 +83,7 @@ fn act(
 
 // The number that the lengths of the memories are refused with; 0 where they are not.
 pub fn refusal(ram: usize, flash: usize, work: usize) -> u32
-    ensures* { λ r. ⌜ r ≡ refusal_of ram flash work ⌝ }
+    ensures { result ≡ refusal_of ram flash work }
 {
     if !is_work_length(work) {
         return BAD_WORK;
@@ -106,7 +106,7 @@ pub fn call(
     flash: &mut [u8],
     work: &mut [u8],
 ) -> Report
-    ensures* { λ r. ⌜ result r reply.new (memories ram.new flash.new work.new) ≡ result_of uartboot session (memories ram.old flash.old work.old) input.now reply.old ⌝ }
+    ensures { given_back result reply.new (memories ram.new flash.new work.new) ≡ result_of uartboot session (memories ram.old flash.old work.old) input.now reply.old }
 {
     let number = refusal(ram.len(), flash.len(), work.len());
     if number != 0 {

@@ -5,7 +5,9 @@ use mathlib.Core.Path.{refl, sym, ◌∙◌}
 use Rattle.host.proofs.session.call.Goals as goal
 
 pub act-end-requires : goal.act-end-requires
-act-end-requires c = ready _ _ _ _ (sym c.judge.ensures ∙ c.in-Accepted.is) _ _ (sym c.decode.ensures ∙ c.in-At.is)
+act-end-requires c =
+    let start = ready _ _ _ _ (sym c.judge.ensures ∙ c.in-Accepted.is) _ _ (sym c.decode.ensures ∙ c.in-At.is) in
+    record { payload_value = start.0; ready = start.1 }
 
 pub returns-in-Refused : goal.returns-in-Refused
 returns-in-Refused c = bad-command _ _ _ _ _ _ (sym c.judge.ensures ∙ c.in-Refused.is) c.refused.ensures

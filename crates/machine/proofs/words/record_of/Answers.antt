@@ -9,4 +9,4 @@ use Rattle.machine.proofs.words.record_of.Goals as goal
 pub returns : goal.returns
 returns c =
     let l : length c.args.words ≡ 8 = omega arith in
-    record { value = refl; result_value = sym (words_back c.args.words l) }
+    record { value = refl; words_back = sym (words_back c.args.words l) }
