@@ -1,6 +1,6 @@
 -- The proved set holds, by computation of the definitions.
 -- Assumes nothing.
-use mathlib.Core.Path.{refl}
+use Rattle.std.proofs.Common.{refl}
 use Rattle.numbers.specs.Number.{number_at}
 use Rattle.wire.specs.Range.{lies_in}
 use Rattle.wire.specs.Length.{is_flash_length}

@@ -3,28 +3,29 @@ ghost use Rattle.std.specs.Prelude.{◌≤◌, length};
 
 use crc::{crc16, crc32};
 use show::{hex, text};
+use std::io;
 
-fn line(short: u16, long: u32, name: &[u8]) {
-    text(b"CRC-16 ");
-    hex(short as u64, 4);
-    text(b"  CRC-32 ");
-    hex(long as u64, 8);
-    text(b"  ");
-    text(name);
-    text(b"\n");
+fn line(rt: &impl Print, short: u16, long: u32, name: &[u8]) -> io::Result<()> {
+    text(rt, b"CRC-16 ")?;
+    hex(rt, short as u64, 4)?;
+    text(rt, b"  CRC-32 ")?;
+    hex(rt, long as u64, 8)?;
+    text(rt, b"  ")?;
+    text(rt, name)?;
+    text(rt, b"\n")
 }
 
-fn whole(bytes: &[u8], name: &[u8]) {
-    line(crc16::crc_of(bytes), crc32::crc_of(bytes), name);
+fn whole(rt: &impl Print, bytes: &[u8], name: &[u8]) -> io::Result<()> {
+    line(rt, crc16::crc_of(bytes), crc32::crc_of(bytes), name)
 }
 
 // The same bytes in two parts, the second from `cut` on.
-fn in_parts(bytes: &[u8], cut: usize, name: &[u8])
+fn in_parts(rt: &impl Print, bytes: &[u8], cut: usize, name: &[u8]) -> io::Result<()>
     requires { cut ≤ length bytes.now }
 {
     let short = crc16::after(crc16::after(crc16::START, &bytes[0..cut]), &bytes[cut..]);
     let long = crc32::after(crc32::after(crc32::START, &bytes[0..cut]), &bytes[cut..]);
-    line(short, long ^ crc32::FINAL, name);
+    line(rt, short, long ^ crc32::FINAL, name)
 }
 
 // 4,096 bytes that count from 0 to 255 again and again.
@@ -36,39 +37,39 @@ fn counting() -> [u8; 4096] {
     bytes
 }
 
-fn in_catalogues() {
-    whole(b"123456789", b"123456789");
-    whole(b"", b"nothing");
-    whole(b"A", b"A");
-    whole(b"a", b"a");
-    whole(b"abc", b"abc");
+fn in_catalogues(rt: &impl Print) -> io::Result<()> {
+    whole(rt, b"123456789", b"123456789")?;
+    whole(rt, b"", b"nothing")?;
+    whole(rt, b"A", b"A")?;
+    whole(rt, b"a", b"a")?;
+    whole(rt, b"abc", b"abc")?;
     let fox = b"The quick brown fox jumps over the lazy dog";
-    whole(fox, fox);
+    whole(rt, fox, fox)
 }
 
-fn single_bytes() {
-    whole(b"\x00", b"00");
-    whole(b"\x80", b"80");
-    whole(b"\xFF", b"FF");
+fn single_bytes(rt: &impl Print) -> io::Result<()> {
+    whole(rt, b"\x00", b"00")?;
+    whole(rt, b"\x80", b"80")?;
+    whole(rt, b"\xFF", b"FF")
 }
 
-fn cut_in_two() {
+fn cut_in_two(rt: &impl Print) -> io::Result<()> {
     let digits = b"123456789";
-    in_parts(digits, 0, b"nothing, 123456789");
-    in_parts(digits, 4, b"1234, 56789");
-    in_parts(digits, 9, b"123456789, nothing");
+    in_parts(rt, digits, 0, b"nothing, 123456789")?;
+    in_parts(rt, digits, 4, b"1234, 56789")?;
+    in_parts(rt, digits, 9, b"123456789, nothing")
 }
 
-fn kilobytes() {
-    whole(&[0u8; 4096], b"4,096 times 00");
-    whole(&[0xFFu8; 4096], b"4,096 times FF");
-    whole(&counting(), b"00 to FF, 16 times");
-    in_parts(&counting(), 1000, b"00 to FF, 16 times, cut at 1,000");
+fn kilobytes(rt: &impl Print) -> io::Result<()> {
+    whole(rt, &[0u8; 4096], b"4,096 times 00")?;
+    whole(rt, &[0xFFu8; 4096], b"4,096 times FF")?;
+    whole(rt, &counting(), b"00 to FF, 16 times")?;
+    in_parts(rt, &counting(), 1000, b"00 to FF, 16 times, cut at 1,000")
 }
 
-pub fn run() {
-    in_catalogues();
-    single_bytes();
-    cut_in_two();
-    kilobytes();
+pub fn run(rt: &impl Print) -> io::Result<()> {
+    in_catalogues(rt)?;
+    single_bytes(rt)?;
+    cut_in_two(rt)?;
+    kilobytes(rt)
 }

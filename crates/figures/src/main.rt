@@ -6,9 +6,11 @@ mod exchanges;
 mod ranges;
 mod readings;
 
-fn main() {
-    checksums::run();
-    readings::run();
-    ranges::run();
-    exchanges::run();
+use std::io;
+
+fn main(rt: HostRuntime) -> io::Result<()> {
+    checksums::run(&rt)?;
+    readings::run(&rt)?;
+    ranges::run(&rt)?;
+    exchanges::run(&rt)
 }

@@ -1,34 +1,35 @@
 // Numbers at the edges of the bytes 12 34 56 78 9A.
 use numbers::Reading;
 use show::{decimal, hex, text};
+use std::io;
 
-fn line(width: u64, place: usize, found: Reading) {
-    text(b"12 34 56 78 9A, ");
-    decimal(width);
-    text(b" bytes from ");
-    decimal(place as u64);
+fn line(rt: &impl Print, width: u64, place: usize, found: Reading) -> io::Result<()> {
+    text(rt, b"12 34 56 78 9A, ")?;
+    decimal(rt, width)?;
+    text(rt, b" bytes from ")?;
+    decimal(rt, place as u64)?;
     match found {
         Reading::Number(number) => {
-            text(b": ");
-            hex(number as u64, 4);
+            text(rt, b": ")?;
+            hex(rt, number as u64, 4)?;
         }
-        Reading::Missing => text(b": missing"),
+        Reading::Missing => text(rt, b": missing")?,
     }
-    text(b"\n");
+    text(rt, b"\n")
 }
 
-fn read(place: usize) {
+fn read(rt: &impl Print, place: usize) -> io::Result<()> {
     let bytes = b"\x12\x34\x56\x78\x9A";
-    line(2, place, numbers::read16(bytes, place));
-    line(4, place, numbers::read32(bytes, place));
+    line(rt, 2, place, numbers::read16(bytes, place))?;
+    line(rt, 4, place, numbers::read32(bytes, place))
 }
 
-pub fn run() {
-    read(0);
-    read(1);
-    read(2);
-    read(3);
-    read(4);
-    read(5);
-    read(0xFFFF_FFFF_FFFF_FFFF);
+pub fn run(rt: &impl Print) -> io::Result<()> {
+    read(rt, 0)?;
+    read(rt, 1)?;
+    read(rt, 2)?;
+    read(rt, 3)?;
+    read(rt, 4)?;
+    read(rt, 5)?;
+    read(rt, 0xFFFF_FFFF_FFFF_FFFF)
 }

@@ -5,28 +5,27 @@
 mod stated;
 
 use crate::stated::{LONGEST, replay_stated};
-use libc::STDIN_FILENO;
-use show::{decimal, text};
+use show::{decimal, read_full, text};
+use std::io;
 use visit::Replayed;
 
-fn show_answer(answer: Replayed) {
+fn show_answer(rt: &impl Print, answer: Replayed) -> io::Result<()> {
     if answer.number != 0 {
-        text(b"-");
-        decimal(answer.number as u64);
+        text(rt, b"-")?;
+        decimal(rt, answer.number as u64)?;
     } else if answer.equal != 0 {
-        text(b"equal");
+        text(rt, b"equal")?;
     } else {
-        decimal(answer.place as u64);
+        decimal(rt, answer.place as u64)?;
     }
-    text(b"\n");
+    text(rt, b"\n")
 }
 
-fn main() {
+fn main(rt: HostRuntime) -> io::Result<()> {
     let mut file = stated::file();
-    let count = io::read_full(STDIN_FILENO, &mut file);
+    let count = read_full(&rt, &mut file)?;
     if count > LONGEST {
-        text(b"too long\n");
-        return;
+        return text(&rt, b"too long\n");
     }
-    show_answer(replay_stated(&file[..count]));
+    show_answer(&rt, replay_stated(&file[..count]))
 }

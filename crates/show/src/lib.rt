@@ -1,29 +1,50 @@
-// Words, numbers and bytes on standard output, for the programs that run figures.
+// Words, numbers and bytes on standard output, and the bytes of standard input, for the programs that run figures.
 #![tactic(auto)]
 
-use libc::STDOUT_FILENO;
+ghost use Rattle.std.specs.Prelude.{◌≤◌, length, IfOk};
 
-pub fn text(bytes: &[u8]) {
-    io::write_all(STDOUT_FILENO, bytes);
+use std::io;
+use std::io::Read;
+
+pub fn text(rt: &impl Print, bytes: &[u8]) -> io::Result<()> {
+    rt.write_all(bytes)
 }
 
-pub fn decimal(number: u64) {
-    io::print_decimal(STDOUT_FILENO, number);
+pub fn decimal(rt: &impl Print, number: u64) -> io::Result<()> {
+    print!(rt; "{number}")
 }
 
-// A number in hexadecimal, with zeros before it up to `width` digits.
-pub fn hex(number: u64, width: usize) {
-    io::print_hex(STDOUT_FILENO, number, width);
+// A number in hexadecimal, with zeros before it up to `width` digits. A width above 16 counts as 16.
+pub fn hex(rt: &impl Print, number: u64, width: usize) -> io::Result<()> {
+    let width = width.min(16);
+    print!(rt; "{number:0width$x}")
 }
 
-fn byte(value: u8) {
-    text(b" ");
-    hex(value as u64, 2);
+fn byte(rt: &impl Print, value: u8) -> io::Result<()> {
+    text(rt, b" ")?;
+    hex(rt, value as u64, 2)
 }
 
 // Bytes in hexadecimal, a blank before each.
-pub fn bytes(bytes: &[u8]) {
+pub fn bytes(rt: &impl Print, bytes: &[u8]) -> io::Result<()> {
     for i in 0..bytes.len() {
-        byte(bytes[i]);
+        byte(rt, bytes[i])?;
     }
+    Ok(())
+}
+
+// Reads until the room is full or the input ends, and says how many bytes it put at the room's start.
+pub fn read_full(rt: &impl Input, room: &mut [u8]) -> io::Result<usize>
+    ensures { IfOk result (λ count. count ≤ length room.new) }
+{
+    let mut input = rt.reader();
+    let mut count = 0;
+    while count < room.len() {
+        let more = input.read(&mut room[count..])?;
+        if more == 0 {
+            break;
+        }
+        count += more;
+    }
+    Ok(count)
 }

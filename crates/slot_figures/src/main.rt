@@ -12,41 +12,45 @@ mod text;
 mod versions;
 
 use crate::row::{line_end, replace_marks};
-use libc::STDIN_FILENO;
-use show::text;
+use show::{read_full, text};
+use std::io;
 
-fn show_answer(room: &mut [u8], row: &[u8]) {
+// Room for the rows.
+const ROOM: usize = 65_536;
+
+fn show_answer(rt: &impl Print, room: &mut [u8], row: &[u8]) -> io::Result<()> {
     if row.len() == 0 {
-        return;
+        return Ok(());
     }
     match row[0] {
-        b'v' => versions::show_rank(row),
-        b'c' => versions::show_order(row),
-        b'f' => slots::show(room, row),
-        b'o' => offers::show(row),
-        _ => sheets::show(row),
+        b'v' => versions::show_rank(rt, row),
+        b'c' => versions::show_order(rt, row),
+        b'f' => slots::show(rt, room, row),
+        b'o' => offers::show(rt, row),
+        _ => sheets::show(rt, row),
     }
 }
 
-fn show_row(room: &mut [u8], row: &mut [u8]) {
-    text(row);
+fn show_row(rt: &impl Print, room: &mut [u8], row: &mut [u8]) -> io::Result<()> {
+    text(rt, row)?;
     replace_marks(row);
-    show_answer(room, row);
-    text(b"\n");
+    show_answer(rt, room, row)?;
+    text(rt, b"\n")
 }
 
-fn show_rows(room: &mut [u8], rows: &mut [u8]) {
+fn show_rows(rt: &impl Print, room: &mut [u8], rows: &mut [u8]) -> io::Result<()> {
     let mut start = 0;
     while start < rows.len() {
         let end = line_end(rows, start);
-        show_row(room, &mut rows[start..end - 1]);
+        show_row(rt, room, &mut rows[start..end - 1])?;
         start = end;
     }
+    Ok(())
 }
 
-fn main() {
-    let mut rows = io::large_buffer();
+fn main(rt: HostRuntime) -> io::Result<()> {
+    let mut rows = [0u8; ROOM];
     let mut room = slots::room();
-    let count = io::read_full(STDIN_FILENO, &mut rows);
-    show_rows(&mut room, &mut rows[0..count]);
+    let count = read_full(&rt, &mut rows)?;
+    show_rows(&rt, &mut room, &mut rows[0..count])
 }

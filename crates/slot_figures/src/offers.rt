@@ -4,10 +4,12 @@ use crate::row::part;
 use crate::text::answer;
 use offer::{judge, offer};
 use show::{bytes, text};
+use std::io;
 
-fn show_judged(installed: &[u8], candidate: &[u8]) {
+fn show_judged(rt: &impl Print, installed: &[u8], candidate: &[u8]) -> io::Result<()> {
     let offered = judge(installed, candidate);
     answer(
+        rt,
         offered.number,
         b", file, place and size",
         &[
@@ -15,33 +17,38 @@ fn show_judged(installed: &[u8], candidate: &[u8]) {
             offered.place as u64,
             offered.size as u64,
         ],
-    );
+    )
 }
 
-fn show_offered<'a>(installed: &'a [u8], candidate: &'a [u8]) {
+fn show_offered<'a>(rt: &impl Print, installed: &'a [u8], candidate: &'a [u8]) -> io::Result<()> {
     let mut number: u32 = 0;
     let code = offer(installed, candidate, &mut number);
-    text(b"; part");
-    bytes(code);
-    answer(number, b"", &[]);
+    text(rt, b"; part")?;
+    bytes(rt, code)?;
+    answer(rt, number, b"", &[])
 }
 
-fn show_files<'a>(installed: &'a [u8], candidate: &'a [u8]) {
-    show_judged(installed, candidate);
-    show_offered(installed, candidate);
+fn show_files<'a>(rt: &impl Print, installed: &'a [u8], candidate: &'a [u8]) -> io::Result<()> {
+    show_judged(rt, installed, candidate)?;
+    show_offered(rt, installed, candidate)
 }
 
-fn show_in(installed: &mut [u8], candidate: &mut [u8], row: &[u8]) {
+fn show_in(
+    rt: &impl Print,
+    installed: &mut [u8],
+    candidate: &mut [u8],
+    row: &[u8],
+) -> io::Result<()> {
     let first = part(row, 6, 67);
     let second = part(row, 68, 129);
     store(installed, first);
     store(candidate, second);
-    show_files(stored(installed, first), stored(candidate, second));
+    show_files(rt, stored(installed, first), stored(candidate, second))
 }
 
 // The row is: offer, and the records of the installed file and of the candidate.
-pub fn show(row: &[u8]) {
+pub fn show(rt: &impl Print, row: &[u8]) -> io::Result<()> {
     let mut installed = [0u8; ROOM];
     let mut candidate = [0u8; ROOM];
-    show_in(&mut installed, &mut candidate, row);
+    show_in(rt, &mut installed, &mut candidate, row)
 }

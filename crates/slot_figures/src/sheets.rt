@@ -4,28 +4,30 @@ use crate::row::{number, part};
 use crate::text::answer;
 use sheet::{code_of, part_at, place_of};
 use show::{bytes, text};
+use std::io;
 
-fn show_file(file: &[u8], place: usize) {
+fn show_file(rt: &impl Print, file: &[u8], place: usize) -> io::Result<()> {
     let placed = place_of(file);
     answer(
+        rt,
         placed.number,
         b", place and size",
         &[placed.place as u64, placed.size as u64],
-    );
-    text(b"; code");
-    bytes(code_of(file));
-    text(b"; part");
-    bytes(part_at(file, place));
+    )?;
+    text(rt, b"; code")?;
+    bytes(rt, code_of(file))?;
+    text(rt, b"; part")?;
+    bytes(rt, part_at(file, place))
 }
 
-fn show_in(room: &mut [u8], row: &[u8]) {
+fn show_in(rt: &impl Print, room: &mut [u8], row: &[u8]) -> io::Result<()> {
     let record = part(row, 6, 67);
     store(room, record);
-    show_file(stored(room, record), number(part(row, 68, 84)) as usize);
+    show_file(rt, stored(room, record), number(part(row, 68, 84)) as usize)
 }
 
 // The row is: sheet, the record of a file, and a PLACE of 16 digits at which its sheet is read.
-pub fn show(row: &[u8]) {
+pub fn show(rt: &impl Print, row: &[u8]) -> io::Result<()> {
     let mut room = [0u8; ROOM];
-    show_in(&mut room, row);
+    show_in(rt, &mut room, row)
 }

@@ -5,6 +5,7 @@ use crate::row::{number, part};
 use crate::store::{count, put_digits};
 use crate::text::answer;
 use slot::select;
+use std::io;
 
 // How many digits a number has.
 const NUMBER: usize = 8;
@@ -64,18 +65,19 @@ fn store(flash: &mut [u8], row: &[u8]) {
     put(flash, row, CHANGED, 2);
 }
 
-fn show_in(flash: &[u8], row: &[u8]) {
+fn show_in(rt: &impl Print, flash: &[u8], row: &[u8]) -> io::Result<()> {
     let header = (number_at(row, PRODUCT) % 0x1_0000_0000) as u32;
     let selected = select(flash, header);
-    answer(selected.number, b", slot", &[selected.slot as u64]);
+    answer(rt, selected.number, b", slot", &[selected.slot as u64])
 }
 
 // The row is: flash LENGTH, then OFFSET BYTES of the product header, of the first image's header, of the second's, and of a
 // changed byte.
-pub fn show(room: &mut [u8], row: &[u8]) {
+pub fn show(rt: &impl Print, room: &mut [u8], row: &[u8]) -> io::Result<()> {
     let length = number_at(row, LENGTH) as usize;
     if length <= room.len() {
         store(&mut room[0..length], row);
-        show_in(&room[0..length], row);
+        show_in(rt, &room[0..length], row)?;
     }
+    Ok(())
 }

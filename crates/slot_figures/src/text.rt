@@ -1,20 +1,22 @@
 // Answers on standard output.
+use std::io;
 
-fn blank_decimal(number: u64) {
-    show::text(b" ");
-    show::decimal(number);
+fn blank_decimal(rt: &impl Print, number: u64) -> io::Result<()> {
+    show::text(rt, b" ")?;
+    show::decimal(rt, number)
 }
 
-fn decimals(values: &[u64]) {
+fn decimals(rt: &impl Print, values: &[u64]) -> io::Result<()> {
     for i in 0..values.len() {
-        blank_decimal(values[i]);
+        blank_decimal(rt, values[i])?;
     }
+    Ok(())
 }
 
 // An answer's number, and its values after their names.
-pub fn answer(number: u32, names: &[u8], values: &[u64]) {
-    show::text(b": number");
-    blank_decimal(number as u64);
-    show::text(names);
-    decimals(values);
+pub fn answer(rt: &impl Print, number: u32, names: &[u8], values: &[u64]) -> io::Result<()> {
+    show::text(rt, b": number")?;
+    blank_decimal(rt, number as u64)?;
+    show::text(rt, names)?;
+    decimals(rt, values)
 }
