@@ -21,7 +21,7 @@ use Rattle.host_record.specs.declared.Found.{Found}
 use Rattle.host_record.specs.declared.Found.TheVariants.{At, Unsound}
 use Rattle.host_record.specs.Record.{numbers, numbers_of, written, step_of, only_first, places_behind, places_of, decoded_of}
 
--- a place below `onlyFirst` is there only if bytes are, and it is 0
+-- a place below `only_first` is there only if bytes are, and it is 0
 first_some : (size place : ℕ) → place < only_first size → 0 < size
 first_some size place = in-cond (λ (k : ℕ). place < k → 0 < size) (eqb size 0) 0 1 (λ t h. absurd (let z : ⊥ = omega arith in z)) (λ t h. omega (arith, eqb-false size 0 t))
 

@@ -30,12 +30,12 @@ pub record Tallied (S : Type 0) : Type 0 where
 abbrev pub tallied : {S : Type 0} → S → ℕ → Tallied S
 tallied s n = record { state = s; tally = n }
 
-module _ {S : Type 0} (isOne : Event ℕ S → Bool) (m : Machine ℕ S) where
+module _ {S : Type 0} (is_one : Event ℕ S → Bool) (m : Machine ℕ S) where
   abbrev pub tallying : Machine ℕ (Tallied S)
   tallying =
       record {
         need = λ p. m.need p.state;
-        after = λ p view. tallied (m.after p.state view) (cond (isOne (record { state = p.state; view = view })) (suc p.tally) p.tally);
+        after = λ p view. tallied (m.after p.state view) (cond (is_one (record { state = p.state; view = view })) (suc p.tally) p.tally);
         says = λ p view. m.says p.state view;
         takes = λ p view. m.takes p.state view;
         due = λ p. m.due p.state;
@@ -55,7 +55,7 @@ module _ {S : Type 0} (isOne : Event ℕ S → Bool) (m : Machine ℕ S) where
 
   -- the tally after actions is how often they are of the kind
   pub way-tallied : {s : S} {stream : List ℕ} {events : List (Event ℕ S)} {o : Outcome S} → Way m s stream events o →
-      Came tallying (tallied s 0) stream (record { replies = o.replies; taken = o.taken; final = tallied o.final (times isOne events) })
+      Came tallying (tallied s 0) stream (record { replies = o.replies; taken = o.taken; final = tallied o.final (times is_one events) })
   way-tallied here = record { events = []; way = here }
   way-tallied (more w e v l) = let c = way-tallied w in record { events = _; way = more c.way e v l }
 
@@ -85,7 +85,7 @@ module _ {S : Type 0} (isOne : Event ℕ S → Bool) (m : Machine ℕ S) where
     grows stream p g =
         path-keeps tallying tallying-lawful p stream {P = λ events q. p.tally ≤ q.tally}
         (λ events q view views e l a h.
-        in-cond (λ (n : ℕ). p.tally ≤ n) (isOne (record { state = q.state; view = view })) (suc q.tally) q.tally (λ t. omega arith) (λ t. h))
+        in-cond (λ (n : ℕ). p.tally ≤ n) (is_one (record { state = q.state; view = view })) (suc q.tally) q.tally (λ t. omega arith) (λ t. h))
         (all_any stream) (omega arith) (uncut-came tallying tallying-lawful p stream).way
 
     -- a run to where the machine can't act, with nothing left
@@ -96,7 +96,7 @@ module _ {S : Type 0} (isOne : Event ℕ S → Bool) (m : Machine ℕ S) where
           ap (uncut tallying (tallied s 0)) (sym (append-nil us)) ∙ goes-uncut tallying tallying-lawful run g []
           ∙ ap (join (went us bs (tallied t n))) last ∙ join-halt (went us bs (tallied t n))
 
-      pub run-times : Times isOne m s us n
+      pub run-times : Times is_one m s us n
       run-times =
           record {
             came = uncut-came m law s us;
@@ -108,8 +108,8 @@ module _ {S : Type 0} (isOne : Event ℕ S → Bool) (m : Machine ℕ S) where
                 let c = way-tallied w in
                 let on = path-continues tallying tallying-lawful (tallied s 0) us g (all_any us) c.way in
                 let sound : Sound o.final = path-keeps m law s us law.stays_sound (all_any us) g w in
-                let later = grows (drop o.taken us) (tallied o.final (times isOne events)) sound in
-                let ends : (uncut tallying (tallied o.final (times isOne events)) (drop o.taken us)).final.tally ≡ n =
+                let later = grows (drop o.taken us) (tallied o.final (times is_one events)) sound in
+                let ends : (uncut tallying (tallied o.final (times is_one events)) (drop o.taken us)).final.tally ≡ n =
                 ap (λ (x : Outcome (Tallied S)). x.final.tally) (sym on ∙ whole) in
                 omega (arith, later, ends);
           }

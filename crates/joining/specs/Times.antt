@@ -6,10 +6,10 @@ use Rattle.machine.specs.Outcome.{Outcome}
 use Rattle.machine.specs.Uncut.{uncut}
 use Rattle.machine.specs.History.{Event, Way, Came}
 
-module _ {S : Type 0} (isOne : Event ℕ S → Bool) where
+module _ {S : Type 0} (is_one : Event ℕ S → Bool) where
   abbrev pub times : List (Event ℕ S) → ℕ
   times [] = 0
-  times (e ∷ events) = cond (isOne e) (suc (times events)) (times events)
+  times (e ∷ events) = cond (is_one e) (suc (times events)) (times events)
 
   -- from s on a stream, n times
   pub record Times (m : Machine ℕ S) (s : S) (stream : List ℕ) (n : ℕ) : Type 0 where

@@ -37,6 +37,6 @@ module _ {A S : Type 0} where
   line_says byte s [] = byte s ∷ []
   line_says byte s (a ∷ view) = []
 
-  -- a machine whose needs are takeOne, sendOne and runs: what a taken symbol does, the byte to send, the state once it is sent
+  -- a machine whose needs are take_one, send_one and runs: what a taken symbol does, the byte to send, the state once it is sent
   abbrev pub line : (need : S → Need) (took : S → A → S) (byte : S → ℕ) (sent : S → S) (due : S → ℕ) → Machine A S
   line need took byte sent due = record { need = need; after = line_after took sent; says = line_says byte; takes = λ s view. length view; due = due }

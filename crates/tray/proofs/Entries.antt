@@ -11,12 +11,12 @@ use Rattle.memory.specs.Store.{laid}
 use Rattle.memory.proofs.Stores.{laid-behind}
 use Rattle.version.specs.Text.{field_length}
 use Rattle.version.proofs.Ranks.{rank-length}
-use Rattle.tray.specs.Tray.{field_count, fields_of, entry_of, in_aRow, entries_of}
+use Rattle.tray.specs.Tray.{field_count, fields_of, entry_of, in_a_row, entries_of}
 use Rattle.tray.specs.Entry.{entry_length, field_at}
 
 -- the entries of the first fields
 abbrev pub first_entries : (count : ℕ) (bytes : List ℕ) → List ℕ
-first_entries count bytes = in_aRow (map entry_of (fields_of count bytes))
+first_entries count bytes = in_a_row (map entry_of (fields_of count bytes))
 
 pub entry-length : (field : List ℕ) → length (entry_of field) ≡ entry_length
 unfolding entry_of

@@ -18,13 +18,13 @@ fields_of (suc count) bytes = take field_length bytes ∷ fields_of count (drop 
 unfoldable pub entry_of : (field : List ℕ) → List ℕ
 entry_of field = (rank_of field).rank ++ (rank_of field).number ∷ []
 
-abbrev pub in_aRow : List (List ℕ) → List ℕ
-in_aRow [] = []
-in_aRow (entry ∷ entries) = entry ++ in_aRow entries
+abbrev pub in_a_row : List (List ℕ) → List ℕ
+in_a_row [] = []
+in_a_row (entry ∷ entries) = entry ++ in_a_row entries
 
 -- the entries of a list of fields
 unfoldable pub entries_of : (bytes : List ℕ) → List ℕ
-entries_of bytes = in_aRow (map entry_of (fields_of (field_count bytes) bytes))
+entries_of bytes = in_a_row (map entry_of (fields_of (field_count bytes) bytes))
 
 -- how many fields a tray has at most
 abbrev pub most_fields : ℕ

@@ -47,7 +47,7 @@ loop-field-preserved c =
     let a = c.args in
     let one : l.field * 16 + 16 - l.field * 16 ≡ 16 = omega arith in
     let entered : put_mid (l.field * entry_length) (length l.ranks - l.field * entry_length) l.ranks c.put_entry.new.room
-        ≡ laid (first_entries (suc l.field) a.fields.now) a.ranks.now =
+    ≡ laid (first_entries (suc l.field) a.fields.now) a.ranks.now =
     one_more c.loop-field.field c.args.fields.now c.args.ranks.now c.loop-field.ranks _ (omega arith) c.loop-field.invariant.4
     (c.put_entry.ensures ∙ rw (c.rank.ensures, one)) in
     let entries = first_entries (suc c.loop-field.field) c.args.fields.now in
