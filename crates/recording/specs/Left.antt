@@ -1,6 +1,6 @@
 -- What is left of the joined bytes of a kind, for a program that goes through the file: a run of bytes in it, and the entries after the run.
 -- Assumes nothing.
-use Rattle.std.specs.Prelude.{ℕ, ◌+◌, ◌-◌, ◌≤◌, ◌≡◌, List, ◌++◌, length, take, drop}
+use Rattle.std.specs.Prelude.{ℕ, ◌-◌, ◌≤◌, ◌≡◌, List, ◌++◌, length, take, drop}
 use Rattle.recording.specs.Recording.{entries_of, fault_of, joined_in}
 use Rattle.recording.specs.declared.run.Run.{Run}
 

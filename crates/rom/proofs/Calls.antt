@@ -7,7 +7,6 @@ use mathlib.Core.Bool.{true, false}
 use mathlib.Core.List.{List}
 use lib.ListN.{length}
 use Rattle.wire.specs.Length.{is_ram_length, bad_ram}
-use Rattle.machine.specs.Call.{standing}
 use Rattle.machine.specs.Loop.{Acted}
 use Rattle.machine.specs.Session.{bad_record, refused_report, result_of}
 use Rattle.machine.specs.declared.Record.{Record}

@@ -1,6 +1,5 @@
 -- `host_flow::ask::header_byte`: by the place.
 -- Assumes nothing.
-use borrow.Author.Tests.{ne_eqb}
 use Rattle.host_flow.proofs.ask.header_byte.Goals as goal
 
 pub returns-in-0 : goal.returns-in-0

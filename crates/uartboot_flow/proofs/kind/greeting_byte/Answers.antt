@@ -1,6 +1,5 @@
 -- `uartboot_flow::kind::greeting_byte`: by the place.
 -- Assumes nothing.
-use borrow.Author.Tests.{ne_eqb}
 use Rattle.uartboot_flow.proofs.kind.greeting_byte.Goals as goal
 
 pub returns-in-0 : goal.returns-in-0
