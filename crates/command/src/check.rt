@@ -86,6 +86,7 @@ fn wrong_end(first: Place) -> u32
 }
 
 // The reason of the first test that fails, by the lengths of the memories; 0 where none does.
+#[tactic(auto, using(crate::proofs::Judged::judgements))]
 fn judge(c: Checks, ram: usize, flash: usize, work: usize) -> u32
     ensures { result ≡ judged ram flash work c }
 {

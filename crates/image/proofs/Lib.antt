@@ -1,1 +1,2 @@
+pub mod Broken
 pub mod Images

@@ -49,6 +49,7 @@ pub fn number_of(rule: Rule) -> u32
 }
 
 // The first rule that an image breaks. Its header begins at an offset and lies in the memory.
+#[tactic(auto, using(crate::proofs::Broken::broken))]
 pub fn first_broken(memory: &[u8], offset: usize) -> Rule
     requires { offset + header_length ≤ length memory.now }
     ensures { result ≡ first_broken memory.now offset }

@@ -41,6 +41,7 @@ pub fn is_ram_length(size: usize) -> bool
 }
 
 // Whether flash may have this length.
+#[tactic(auto, using(crate::proofs::FlashLengths::flash_lengths))]
 pub fn is_flash_length(size: usize) -> bool
     ensures { result ≡ is_flash_length size }
 {

@@ -10,18 +10,6 @@ use Rattle.memory.proofs.store.lay.Goals as goal
 pub loop-i-init : goal.loop-i-init
 loop-i-init c = (refl, refl)
 
-pub bounds-bytes-i : goal.bounds-bytes-i
-bounds-bytes-i c = omega arith
-
-pub bounds-part-i : goal.bounds-part-i
-bounds-part-i c = omega arith
-
-pub overflow_add-i : goal.overflow_add-i
-overflow_add-i c = omega arith
-
-pub loop-i-smaller : goal.loop-i-smaller
-loop-i-smaller c = omega arith
-
 pub loop-i-preserved : goal.loop-i-preserved
 loop-i-preserved c =
     (stored_more laid _ c.loop-i.part _ c.loop-i.i c.loop-i.invariant.0 (λ old new. new) (λ _ _ _ _. refl) (omega arith) (omega arith), simp length-set c.loop-i.invariant.1)
