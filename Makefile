@@ -22,7 +22,7 @@ all: lib $(BUILD)/undalisho
 lib: $(ARCHIVE) $(BUILD)/undalisho.pc
 
 # The crates whose functions C calls: capi, and those whose names begin with capi_. Each gives an archive with one object.
-CAPI := $(shell sed -nE 's/^(capi(_\w+)?) +staticlib:.*/\1/p' crates.txt)
+CAPI := $(shell sed -nE 's/^(capi(_\w+)?)( +staticlib)?:.*/\1/p' crates.txt)
 PARTS := $(CAPI:%=$(BUILD)/parts/lib%.a)
 
 # What a crate is made of: the files of its own, and of all that it uses. crates.txt has what a crate uses above it.

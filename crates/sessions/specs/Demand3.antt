@@ -1,14 +1,14 @@
 -- Demand 3, the claim about a whole list of calls (rules, 3.5): one statement for all kinds, all memories, every stream of bytes and every
 -- list of calls, the refused ones among them. Its lines are stated in machine's Reach and SessionClaim, over any session:
 --   reach             a session starts at the record that is handed out for it; this and every record that calls can reach are accepted
---   definition-ends   the definition stops when a take finds the stream empty, or when code runs
---   refused-lengths   where the lengths are refused, all calls are, and nothing changes
---   no-refusal        else none is: every record on the way is sound
---   replies-begin, taken-within, sent-within   always: joined replies are a beginning of the definition's, counts within
---   all-taken, code-runs   all taken and waiting for a byte, or code running: replies, counts, memories and record are the definition's
---   too-few-left      the same where what is left is less than the next action needs
---   enough-room, takes_all   a call with room for the replies waits for a byte, unless code runs; it then has taken all it was shown
---   reached, reached-is, reads-as, history   the state that the list has come to, by actions of the flow; its record is read as that state
+--   definition_ends   the definition stops when a take finds the stream empty, or when code runs
+--   refused_lengths   where the lengths are refused, all calls are, and nothing changes
+--   no_refusal        else none is: every record on the way is sound
+--   replies_begin, taken_within, sent_within   always: joined replies are a beginning of the definition's, counts within
+--   all_taken, code_runs   all taken and waiting for a byte, or code running: replies, counts, memories and record are the definition's
+--   too_few_left      the same where what is left is less than the next action needs
+--   enough_room, takes_all   a call with room for the replies waits for a byte, unless code runs; it then has taken all it was shown
+--   reached, reached_is, reads_as, history   the state that the list has come to, by actions of the flow; its record is read as that state
 --   told              what is told below holds where the list has come, and at every state on the way
 -- Assumes nothing.
 use Rattle.std.specs.Prelude.{ℕ, List}
