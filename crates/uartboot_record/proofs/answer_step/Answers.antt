@@ -1,6 +1,5 @@
 -- `uartboot_record::answer_step`: by the phase.
 -- Assumes nothing.
-use borrow.Author.Tests.{ne_eqb}
 use Rattle.uartboot_record.proofs.answer_step.Goals as goal
 
 pub returns-in-11 : goal.returns-in-11

@@ -1,6 +1,5 @@
 -- `uartboot_record::payload_step`: by the phase.
 -- Assumes nothing.
-use borrow.Author.Tests.{ne_eqb}
 use Rattle.uartboot_record.proofs.payload_step.Goals as goal
 
 pub returns-in-6 : goal.returns-in-6

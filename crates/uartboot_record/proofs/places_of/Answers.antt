@@ -1,6 +1,5 @@
 -- `uartboot_record::places_of`: by the phase.
 -- Assumes nothing.
-use borrow.Author.Tests.{ne_eqb}
 use Rattle.uartboot_record.proofs.places_of.Goals as goal
 
 pub returns-in-0 : goal.returns-in-0

@@ -1,6 +1,5 @@
 -- `uartboot_record::plain_step`: by the phase.
 -- Assumes nothing.
-use borrow.Author.Tests.{ne_eqb}
 use Rattle.uartboot_record.proofs.plain_step.Goals as goal
 
 pub returns-in-0 : goal.returns-in-0
