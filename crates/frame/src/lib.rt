@@ -95,6 +95,7 @@ fn put_frame(kind: Kind, code: &[u8], out: &mut [u8])
 }
 
 // Writes the boot frame of a code to the front of the output. Where it is refused, the output stays as it was.
+#[tactic(auto, unfolding(crate::specs::Frame::framed_of))]
 pub fn frame(kind: Kind, code: &[u8], out: &mut [u8]) -> Framed
     ensures { written result out.new ≡ framed_of kind code.now out.old }
 {

@@ -212,6 +212,7 @@ fn running_in(ram: usize, opcode: u32, address: u32) -> Found
 }
 
 // The step of a phase, whatever the place.
+#[tactic(auto, unfolding(crate::specs::Record::phase_in))]
 fn phase_in(ram: usize, work: usize, n: Numbers) -> Found
     ensures { result ≡ phase_in ram work n }
 {
@@ -237,6 +238,7 @@ fn phase_in(ram: usize, work: usize, n: Numbers) -> Found
 }
 
 // The step that a record stands for, with memories of these lengths.
+#[tactic(auto, unfolding(crate::specs::Record::decoded_of, crate::specs::Record::step_in))]
 pub fn decode(ram: usize, work: usize, session: Record) -> Found
     ensures { result ≡ decoded_of ram work session }
 {

@@ -17,7 +17,7 @@ returns-then-is_front c =
     put_mid a.offset (length a.flash.now - a.offset) a.flash.now c.burn.new.part
     ≡ changed_from a.offset (burnt a.bytes.now) a.flash.now = rw c.burn.ensures (changed-part c.args.flash.now c.args.offset (burnt c.args.bytes.now) (omega arith)) in
     let same = rw (to_end _ c.args.offset) at (sym c.is_front.ensures ∙ c.if-is_front.true) in
-    (simp (eq-eqb _ _ c.if-verify-eq1.true, same), back)
+    (simp (eq-eqb c.args.verify 1 (omega arith), same), back)
 
 pub returns-else-is_front : goal.returns-else-is_front
 returns-else-is_front c =
@@ -25,7 +25,7 @@ returns-else-is_front c =
     put_mid a.offset (length a.flash.now - a.offset) a.flash.now c.burn.new.part
     ≡ changed_from a.offset (burnt a.bytes.now) a.flash.now = rw c.burn.ensures (changed-part c.args.flash.now c.args.offset (burnt c.args.bytes.now) (omega arith)) in
     let same = rw (to_end _ c.args.offset) at (sym c.is_front.ensures ∙ c.if-is_front.false) in
-    (simp (eq-eqb _ _ c.if-verify-eq1.true, same), back)
+    (simp (eq-eqb c.args.verify 1 (omega arith), same), back)
 
 pub returns-else-verify-eq1 : goal.returns-else-verify-eq1
 returns-else-verify-eq1 c =

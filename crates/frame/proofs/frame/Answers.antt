@@ -4,20 +4,16 @@ use Prim.Native.Nat.{◌+◌, ◌<◌, ◌≤◌}
 use mathlib.Core.Path.{◌≡◌}
 use native.Mathlib.Omega.{arith}
 use lib.ListN.{length}
-use borrow.Author.Tests.{lt-ltb, le-ltb, eq-eqb, ne_eqb}
+use borrow.Author.Tests.{lt-ltb, le-ltb, ne_eqb}
 use Rattle.frame.specs.Frame.{longest, frame_of, framed_of}
 use Rattle.frame.proofs.Frames.{longest-most, header-most, frame-length}
 use Rattle.frame.proofs.frame.Goals as goal
-
-pub returns-then-count-eq0 : goal.returns-then-count-eq0
-unfolding framed_of
-returns-then-count-eq0 c = simp (c.refused.ensures, eq-eqb _ _ c.if-count-eq0.true)
 
 pub returns-then-longest-count : goal.returns-then-longest-count
 unfolding framed_of
 returns-then-longest-count c =
     let long : longest c.args.kind < length c.args.code.now = omega (arith, c.longest.ensures, c.if-longest-count.true) in
-    simp (c.refused-then-longest-count.ensures, ne_eqb _ _ c.if-count-eq0.false, lt-ltb _ _ long)
+    simp (c.refused-then-longest-count.ensures, ne_eqb (length c.args.code.now) 0 (λ e. absurd (omega arith)), lt-ltb _ _ long)
 
 pub overflow_add-length : goal.overflow_add-length
 overflow_add-length c =
@@ -38,7 +34,7 @@ returns-then-out-length c =
     let whole : let a = c.args in
     c.header_length.result + length a.code.now + 1 ≡ length (frame_of a.kind a.code.now) = rw c.header_length.ensures (frame-length c.args.kind c.args.code.now) in
     let over : length c.args.out.now < length (frame_of c.args.kind c.args.code.now) = omega (arith, whole, c.if-out-length.true) in
-    simp (c.refused-then-out-length.ensures, ne_eqb _ _ c.if-count-eq0.false, le-ltb _ _ short, lt-ltb _ _ over)
+    simp (c.refused-then-out-length.ensures, ne_eqb (length c.args.code.now) 0 (λ e. absurd (omega arith)), le-ltb _ _ short, lt-ltb _ _ over)
 
 pub put_frame-requires : goal.put_frame-requires
 put_frame-requires c =
@@ -54,5 +50,5 @@ returns c =
     let whole : let a = c.args in
     c.header_length.result + length a.code.now + 1 ≡ length (frame_of a.kind a.code.now) = rw c.header_length.ensures (frame-length c.args.kind c.args.code.now) in
     let under : length (frame_of c.args.kind c.args.code.now) ≤ length c.args.out.now = omega (arith, whole, c.if-out-length.false) in
-    let some = ne_eqb _ _ c.if-count-eq0.false in
+    let some = ne_eqb (length c.args.code.now) 0 (λ e. absurd (omega arith)) in
     simp (some, le-ltb _ _ short, le-ltb _ _ under, whole, c.put_frame.ensures)

@@ -1,5 +1,6 @@
 -- `rom::session::act`: each turn of the loop is takes or sends of the machine, and where it returns the machine has stopped.
 -- Assumes nothing.
+use native.Mathlib.Omega.{arith}
 use Rattle.rom.proofs.Turns.{begins, ready-to-take, taken, hungry, ready-to-send, sent, choked, halts}
 use Rattle.rom_flow.proofs.Laws.{held}
 use Rattle.rom_flow.specs.Due.{due}
@@ -49,7 +50,7 @@ pub send-after-requires : goal.send-after-requires
 send-after-requires c =
     record {
       in_ram = ready-to-send c.loop-taking.invariant _ c.ask_of.ensures _ c.in-Send.is;
-      j_in_bounds = c.if-j-reply.false;
+      j_in_bounds = omega arith;
     }
 
 pub advance-j-requires : goal.advance-j-requires
