@@ -82,6 +82,14 @@ class Player:
         with open(f'/proc/{self.process.pid}/io') as f:
             return int(f.readline().split()[1])
 
+    def settle(self):
+        """Waits until it uses no processor time: what it had to do is done."""
+        def still():
+            before = self.processor_seconds()
+            time.sleep(0.2)
+            return self.processor_seconds() == before
+        bench.wait_until(still, 'a player at rest')
+
     def rest(self):
         """How many seconds of processor time it uses in a second in which nothing happens."""
         before = self.processor_seconds()

@@ -61,6 +61,7 @@ class Comings(bench.Case):
         line = self.player.open()
         line.write(sent)
         self.player.await_event('greeting')
+        self.player.settle()
         self.assertLess(self.player.rest(), 0.05)
         self.assertEqual(line.read(len(expected)), expected)
         line.expect_nothing(0)
