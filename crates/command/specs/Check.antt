@@ -1,10 +1,8 @@
 -- The checks of a command (rules, 2.2 and 6.8): reasons 14 and 15, 16 and 21 for the range in RAM, 16 and 21 for the range in flash, and
 -- 17, in that order.
 -- Assumes nothing.
-use Rattle.std.specs.Prelude.{ℕ, cond, not, eqb, ltb, length}
+use Rattle.std.specs.Prelude.{ℕ, cond, not, eqb, ltb, length, Option, Some, None}
 use Rattle.wire.specs.Range.{lies_in}
-use Rattle.wire.specs.declared.range.Place.{Place}
-use Rattle.wire.specs.declared.range.Place.TheVariants.{Inside, Outside}
 use Rattle.wire.specs.Unit.{ram_base, first_address, ram_place, flash_place}
 use Rattle.wire.specs.declared.unit.RamAddress.{RamAddress}
 use Rattle.wire.specs.declared.unit.FlashOffset.{FlashOffset}
@@ -51,9 +49,9 @@ checks_of ChipErase = checks 0 1 first_address 0 first_offset 0 0
 checks_of (DirectWrite verify offset n) = checks verify n first_address 0 offset n 0
 
 -- the reason against a range that is not wholly in its memory, by where its first byte lies: outside, or inside, so that the end is wrong
-abbrev pub wrong_end : (first : Place) → ℕ
-wrong_end Outside = outside_memory
-wrong_end (Inside place) = past_end
+abbrev pub wrong_end : (first : Option ℕ) → ℕ
+wrong_end None = outside_memory
+wrong_end (Some place) = past_end
 
 -- the reason of the first test that fails, in memories of these lengths; 0 where none does
 unfoldable pub judged : (ram flash work : ℕ) → Checks → ℕ

@@ -4,7 +4,6 @@ ghost use Rattle.command.specs.Check.{checks, checks_of, judged, wrong_end};
 
 use crate::payload::Command;
 use crate::version::VERSION;
-use wire::range::Place;
 use wire::unit::{FlashOffset, RAM_BASE, RamAddress};
 
 // The reason where the verify byte is neither 0 nor 1.
@@ -76,12 +75,12 @@ pub fn checks_of(command: Command) -> Checks
 }
 
 // The reason against a range that doesn't lie wholly in its memory, by the place of its first byte.
-fn wrong_end(first: Place) -> u32
+fn wrong_end(first: Option<usize>) -> u32
     ensures { result ≡ wrong_end first }
 {
     match first {
-        Place::Inside(_) => PAST_END,
-        Place::Outside => OUTSIDE_MEMORY,
+        Some(_) => PAST_END,
+        None => OUTSIDE_MEMORY,
     }
 }
 
@@ -96,10 +95,10 @@ fn judge(c: Checks, ram: usize, flash: usize, work: usize) -> u32
     if c.count == 0 {
         return EMPTY_RANGE;
     }
-    let Place::Inside(_) = c.address.place(c.ram as usize, ram) else {
+    let Some(_) = c.address.place(c.ram as usize, ram) else {
         return wrong_end(c.address.place(1, ram));
     };
-    let Place::Inside(_) = c.offset.place(c.flash as usize, flash) else {
+    let Some(_) = c.offset.place(c.flash as usize, flash) else {
         return wrong_end(c.offset.place(1, flash));
     };
     if work < (c.answer as usize) {

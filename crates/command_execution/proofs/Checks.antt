@@ -1,5 +1,6 @@
 -- What it says of a command that none of its checks failed.
 -- Assumes nothing.
+use Rattle.std.specs.Prelude.{Option, Some, None}
 use Prim.Native.Nat.{ℕ, ◌+◌, ◌-◌, ◌≤◌, ◌<◌}
 use mathlib.Core.Path.{◌≡◌, refl}
 use mathlib.Core.Bool.{Bool, true, false, cond, not}
@@ -7,8 +8,6 @@ use lib.Dec.{eqb, leb, ltb}
 use native.Mathlib.Omega.{arith}
 use borrow.Author.Tests.{ltb-false, leb-true, eqb-false, not-false}
 use Rattle.wire.specs.Range.{lies_in}
-use Rattle.wire.specs.declared.range.Place.{Place}
-use Rattle.wire.specs.declared.range.Place.TheVariants.{Inside, Outside}
 use Rattle.wire.specs.Unit.{ram_base, ram_place, flash_place}
 use Rattle.wire.proofs.Ranges.{lies-fits}
 use Rattle.wire.proofs.Tests.{both_true}
@@ -31,9 +30,9 @@ no-reason true reason rest h e = absurd (omega arith)
 no-reason false reason rest h e = (refl, e)
 
 -- a range that is not wholly in its memory gets a reason, whichever end is wrong
-some-reason : (first : Place) → 0 < wrong_end first
-some-reason (Inside place) = omega arith
-some-reason Outside = omega arith
+some-reason : (first : Option ℕ) → 0 < wrong_end first
+some-reason (Some place) = omega arith
+some-reason None = omega arith
 
 pub allowed : (ram flash work : ℕ) (c : Checks) → judged ram flash work c ≡ 0 → Passed ram flash work c
 unfolding judged lies_in

@@ -1,7 +1,6 @@
 // Ranges at the edges of RAM and of flash.
 use show::{decimal, hex, text};
 use std::io;
-use wire::range::Place;
 use wire::unit::{FlashOffset, RamAddress};
 
 fn line(
@@ -10,7 +9,7 @@ fn line(
     size: usize,
     count: usize,
     start: u32,
-    place: Place,
+    place: Option<usize>,
 ) -> io::Result<()> {
     text(rt, memory)?;
     text(rt, b" of ")?;
@@ -20,11 +19,11 @@ fn line(
     text(rt, b" from ")?;
     hex(rt, start as u64, 8)?;
     match place {
-        Place::Inside(at) => {
+        Some(at) => {
             text(rt, b": from byte ")?;
             decimal(rt, at as u64)?;
         }
-        Place::Outside => text(rt, b": outside")?,
+        None => text(rt, b": outside")?,
     }
     text(rt, b"\n")
 }

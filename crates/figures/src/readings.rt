@@ -1,19 +1,18 @@
 // Numbers at the edges of the bytes 12 34 56 78 9A.
-use numbers::Reading;
 use show::{decimal, hex, text};
 use std::io;
 
-fn line(rt: &impl Print, width: u64, place: usize, found: Reading) -> io::Result<()> {
+fn line(rt: &impl Print, width: u64, place: usize, found: Option<u32>) -> io::Result<()> {
     text(rt, b"12 34 56 78 9A, ")?;
     decimal(rt, width)?;
     text(rt, b" bytes from ")?;
     decimal(rt, place as u64)?;
     match found {
-        Reading::Number(number) => {
+        Some(number) => {
             text(rt, b": ")?;
             hex(rt, number as u64, 4)?;
         }
-        Reading::Missing => text(rt, b": missing")?,
+        None => text(rt, b": missing")?,
     }
     text(rt, b"\n")
 }

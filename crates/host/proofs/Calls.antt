@@ -1,5 +1,6 @@
 -- A call's result, case by case.
 -- Assumes nothing.
+use Rattle.std.specs.Prelude.{Option, Some, None}
 use Prim.Native.Nat.{ℕ}
 use mathlib.Core.Path.{◌≡◌, refl, sym, ap, subst, ◌∙◌}
 use mathlib.Core.Bool.{Bool, true, false, cond}
@@ -20,8 +21,6 @@ use Rattle.host_flow.specs.declared.step.Step.{Step}
 use Rattle.host_flow.specs.State.{state}
 use Rattle.host_flow.specs.Host.{host}
 use Rattle.host_flow.specs.Sound.{Ready}
-use Rattle.host_record.specs.declared.Found.{Found}
-use Rattle.host_record.specs.declared.Found.TheVariants.{At, Unsound}
 use Rattle.host_record.specs.Record.{written, decoded_of}
 use Rattle.host_record.proofs.Records.{decoded-sound}
 use Rattle.host.specs.Session.{read_of, host_session, given_back}
@@ -59,30 +58,30 @@ module _ (session : Record) (input output : List ℕ) (c : Lent) (r : Report) wh
     abbrev fits : refusal_of c ≡ 0
     fits = (accepted-with c x e).1
 
-    read_as : (d : Found) → decoded_of x session ≡ d → host_session.read session c ≡ read_of d session.reason c
+    read_as : (d : Option Step) → decoded_of x session ≡ d → host_session.read session c ≡ read_of d session.reason c
     read_as d f = rw (known, f) refl
 
-    pub bad-record : decoded_of x session ≡ Unsound → r ≡ refused_report bad_record session → given_back r output c ≡ result_of host_session session c input output
-    bad-record f q = refused-record host_session session c input output r fits (read_as Unsound f) q
+    pub bad-record : decoded_of x session ≡ None → r ≡ refused_report bad_record session → given_back r output c ≡ result_of host_session session c input output
+    bad-record f q = refused-record host_session session c input output r fits (read_as None f) q
 
-    pub good : (s : Step) → decoded_of x session ≡ At s → (taken sent stands : ℕ) (last : Step) (reason : ℕ) (output' : List ℕ) (c' : Lent) →
+    pub good : (s : Step) → decoded_of x session ≡ Some s → (taken sent stands : ℕ) (last : Step) (reason : ℕ) (output' : List ℕ) (c' : Lent) →
         Acted host (state s session.reason c) input output taken sent stands (state last reason c') output' →
         r ≡ record { number = 0; standing = stands; taken = taken; sent = sent; session = written last reason } →
         given_back r output' c' ≡ result_of host_session session c input output
     good s f taken sent stands last reason output' c' a q =
-        accepted-call host_session session c input output r fits (state s session.reason c) (read_as (At s) f) taken sent stands (state last reason c') output' a q
+        accepted-call host_session session c input output r fits (state s session.reason c) (read_as (Some s) f) taken sent stands (state last reason c') output' a q
 
 -- the loop goes by what is known from the command, its opcode among that
 module _ (opcode : ℕ) (payload answer : List ℕ) (x : Exchange) (e : judged_of (lent opcode payload answer) ≡ Accepted x) where
   abbrev is-opcode : opcode ≡ x.opcode
   is-opcode = same_opcode (lent opcode payload answer) x (accepted-with (lent opcode payload answer) x e).0
 
-  pub ready : (session : Record) (s : Step) → decoded_of x session ≡ At s → (exchange_of x.opcode payload ≡ x) × Ready s (lent x.opcode payload answer)
+  pub ready : (session : Record) (s : Step) → decoded_of x session ≡ Some s → (exchange_of x.opcode payload ≡ x) × Ready s (lent x.opcode payload answer)
   ready session s f =
       let a = accepted-with (lent opcode payload answer) x e in
       subst (λ (o : ℕ). (exchange_of o payload ≡ x) × Ready s (lent o payload answer)) is-opcode (a.0, record { accepted = a.1; step_sound = rw a.0 (decoded-sound x session s f) })
 
-  pub went : (session : Record) (input output : List ℕ) (r : Report) (s : Step) → decoded_of x session ≡ At s →
+  pub went : (session : Record) (input output : List ℕ) (r : Report) (s : Step) → decoded_of x session ≡ Some s →
       (taken sent stands : ℕ) (last : Step) (reason : ℕ) (output' answer' : List ℕ) →
       Acted host (state s session.reason (lent x.opcode payload answer)) input output taken sent stands (state last reason (lent x.opcode payload answer')) output' →
       r ≡ record { number = 0; standing = stands; taken = taken; sent = sent; session = written last reason } →

@@ -1,5 +1,6 @@
 -- Every record that calls can reach is accepted.
 -- Assumes nothing.
+use Rattle.std.specs.Prelude.{Option, Some, None}
 use native.Mathlib.Omega.{arith}
 use mathlib.Core.Path.{◌≡◌, refl, sym, subst, ◌∙◌}
 use Rattle.machine.specs.Lawful.{Any}
@@ -14,8 +15,6 @@ use Rattle.host_flow.specs.State.{State, state}
 use Rattle.host_flow.specs.Fresh.{fresh_record, fresh}
 use Rattle.host_flow.proofs.Sounds.{Held, same-lent}
 use Rattle.host_flow.proofs.Laws.{held}
-use Rattle.host_record.specs.declared.Found.{Found}
-use Rattle.host_record.specs.declared.Found.TheVariants.{At, Unsound}
 use Rattle.host_record.specs.Record.{written, decoded_of}
 use Rattle.host_record.proofs.Records.{decoded-sound, reads_back}
 use Rattle.host.specs.Session.{host_session}
@@ -28,11 +27,11 @@ starts c = refl
 read_held : (r : Record) (c : Lent) (s : State) → refusal_of c ≡ 0 → host_session.read r c ≡ sound s → Held c s
 read_held r c s ok e = go (decoded_of (exchange c) r) refl
   where
-    go : (d : Found) → decoded_of (exchange c) r ≡ d → Held c s
-    go (At step) q =
+    go : (d : Option Step) → decoded_of (exchange c) r ≡ d → Held c s
+    go (Some step) q =
         let is : state step r.reason c ≡ s = sound-same (state step r.reason c) s (rw q at e) in
         subst (Held c) is (record { ready = record { accepted = ok; step_sound = decoded-sound (exchange c) r step q }; same = same-lent c })
-    go Unsound q = absurd (never-sound s (rw q at e))
+    go None q = absurd (never-sound s (rw q at e))
 
 -- with the same command and an answer buffer of the same length nothing is refused that was accepted
 still-accepted : (a b : Lent) → SameLent a b → refusal_of b ≡ 0 → refusal_of a ≡ 0

@@ -1,20 +1,18 @@
 -- The host's session: a call on a record, the device's bytes, room for the host's own, and what is lent. It is refused with 71, 72 or 4
 -- (rules, 15.2 and 15.6).
 -- Assumes nothing.
-use Rattle.std.specs.Prelude.{ℕ, List}
+use Rattle.std.specs.Prelude.{ℕ, List, Option, Some, None}
 use Rattle.machine.specs.Session.{Read, sound, unsound, Session, Result}
 use Rattle.machine.specs.declared.Report.{Report}
 use Rattle.host_command.specs.Exchange.{Lent, exchange}
 use Rattle.host_command.specs.Refusal.{refusal_of}
 use Rattle.host_flow.specs.State.{State, state}
 use Rattle.host_flow.specs.Host.{host}
-use Rattle.host_record.specs.declared.Found.{Found}
-use Rattle.host_record.specs.declared.Found.TheVariants.{At, Unsound}
 use Rattle.host_record.specs.Record.{written, decoded_of}
 
-abbrev pub read_of : Found → (reason : ℕ) → Lent → Read State
-read_of (At step) reason c = sound (state step reason c)
-read_of Unsound reason c = unsound
+abbrev pub read_of : Option Step → (reason : ℕ) → Lent → Read State
+read_of (Some step) reason c = sound (state step reason c)
+read_of None reason c = unsound
 
 abbrev pub host_session : Session ℕ Lent State
 host_session =

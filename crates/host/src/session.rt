@@ -11,7 +11,7 @@ ghost use Rattle.host.specs.Session.{host_session, given_back};
 use host_command::{Exchange, Judged, judge};
 use host_flow::ask::{Ask, ask_of};
 use host_flow::step::Step;
-use host_record::{Found, decode, encode};
+use host_record::{decode, encode};
 use host_turn::{look, send, take};
 use machine::{BAD_RECORD, Record, Report, advance, refused};
 
@@ -105,8 +105,8 @@ pub fn call(
     match judge(opcode, payload, answer) {
         Judged::Refused(number) => refused(number, session),
         Judged::Accepted(x) => match decode(x, session) {
-            Found::Unsound => refused(BAD_RECORD, session),
-            Found::At(step) => {
+            None => refused(BAD_RECORD, session),
+            Some(step) => {
                 let end = act(x, step, session.reason, payload, input, output, answer);
                 let reached = end.step;
                 Report {

@@ -1,5 +1,6 @@
 -- A host's command, case by case: refused with 71, refused with 72, accepted.
 -- Assumes nothing.
+use Rattle.std.specs.Prelude.{Some}
 use Prim.Native.Nat.{ℕ, ◌≤◌, ◌<◌}
 use native.Mathlib.Omega.{arith}
 use mathlib.Core.Path.{◌≡◌, refl, ap, ◌∙◌}
@@ -11,7 +12,6 @@ use borrow.Author.Tests.{lt-ltb, le-ltb, ltb-false, le-leb, lt-leb}
 use Rattle.numbers.specs.Number.{low_byte}
 use Rattle.opcodes.specs.declared.Opcode.{Opcode}
 use Rattle.opcodes.specs.declared.Opcode.TheVariants.{Write, Read, Copy, Erase, Run, ReadQspi, Version, ChipErase, DirectWrite}
-use Rattle.opcodes.specs.declared.Lookup.TheVariants.{Known}
 use Rattle.opcodes.specs.Opcode.{opcode_number, opcode_of, has_length}
 use Rattle.opcodes.proofs.Opcodes.{opcode-number}
 use Rattle.host_command.specs.declared.Follows.{Follows}
@@ -32,7 +32,7 @@ one_byte Version = refl
 one_byte ChipErase = refl
 one_byte DirectWrite = refl
 
-pub number-byte : (n : ℕ) (opcode : Opcode) → opcode_of n ≡ Known opcode → low_byte n ≡ n
+pub number-byte : (n : ℕ) (opcode : Opcode) → opcode_of n ≡ Some opcode → low_byte n ≡ n
 number-byte n opcode e = rw (← opcode-number n opcode e) (one_byte opcode)
 
 module _ (c : Lent) where
@@ -49,7 +49,7 @@ module _ (c : Lent) where
     unfolding refusal_of
     good h = rw (e, le-ltb _ _ h) refl
 
-module _ (n : ℕ) (payload answer : List ℕ) (opcode : Opcode) (known : opcode_of n ≡ Known opcode) where
+module _ (n : ℕ) (payload answer : List ℕ) (opcode : Opcode) (known : opcode_of n ≡ Some opcode) where
   abbrev c : Lent
   c = lent n payload answer
 

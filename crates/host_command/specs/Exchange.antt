@@ -1,10 +1,8 @@
 -- The command that a host is lent, and what the host knows from it: what comes after its execution, and how long its answer must be
 -- (rules, 15.1 and 15.2).
 -- Assumes nothing.
-use Rattle.std.specs.Prelude.{ℕ, ◌≡◌, cond, List, length}
+use Rattle.std.specs.Prelude.{ℕ, ◌≡◌, cond, List, length, Option, Some, None}
 use Rattle.opcodes.specs.declared.Opcode.{Opcode}
-use Rattle.opcodes.specs.declared.Lookup.{Lookup}
-use Rattle.opcodes.specs.declared.Lookup.TheVariants.{Known, Unknown}
 use Rattle.opcodes.specs.Opcode.{opcode_of, has_answer, is_run}
 use Rattle.command.specs.Payload.{command_of}
 use Rattle.command.specs.Check.{checks_of}
@@ -34,9 +32,9 @@ follows_command opcode payload =
     (cond (is_run opcode) Runs Greets)
 
 -- a number that stands for no opcode is refused before anything follows
-abbrev pub follows_lookup : Lookup → (payload : List ℕ) → Follows
-follows_lookup (Known opcode) payload = follows_command opcode payload
-follows_lookup Unknown payload = Greets
+abbrev pub follows_lookup : Option Opcode → (payload : List ℕ) → Follows
+follows_lookup (Some opcode) payload = follows_command opcode payload
+follows_lookup None payload = Greets
 
 -- how long an answer must be; 0 where none is awaited
 abbrev pub awaited_of : Follows → ℕ

@@ -1,8 +1,6 @@
 -- The refusals of a host's command (rules, 2.1 and 15.2): 71, then 72, before any byte is sent.
 -- Assumes nothing.
-use Rattle.std.specs.Prelude.{ℕ, Bool, false, cond, not, ◌&&◌, eqb, leb, ltb, length}
-use Rattle.opcodes.specs.declared.Lookup.{Lookup}
-use Rattle.opcodes.specs.declared.Lookup.TheVariants.{Known, Unknown}
+use Rattle.std.specs.Prelude.{ℕ, Bool, false, cond, not, ◌&&◌, eqb, leb, ltb, length, Option, Some, None}
 use Rattle.opcodes.specs.Opcode.{opcode_of, has_length}
 use Rattle.host_command.specs.declared.Judged.{Judged}
 use Rattle.host_command.specs.declared.Judged.TheVariants.{Accepted, Refused}
@@ -20,9 +18,9 @@ abbrev pub longest_payload : ℕ
 longest_payload = 65535
 
 -- an opcode, with a payload length that it has and that a header can say
-abbrev pub is_command : Lookup → (size : ℕ) → Bool
-is_command (Known opcode) size = has_length opcode size && leb size longest_payload
-is_command Unknown size = false
+abbrev pub is_command : Option Opcode → (size : ℕ) → Bool
+is_command (Some opcode) size = has_length opcode size && leb size longest_payload
+is_command None size = false
 
 -- tested in this order; 0 where neither is given
 unfoldable pub refusal_of : Lent → ℕ

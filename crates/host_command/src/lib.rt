@@ -9,7 +9,7 @@ ghost use Rattle.host_command.specs.Refusal.{longest_payload, judged_of};
 use command::check::checks_of;
 use command::payload::command_of;
 use numbers::low_byte;
-use opcodes::{Lookup, Opcode, has_answer, has_length, number_of, opcode_of};
+use opcodes::{Opcode, has_answer, has_length, number_of, opcode_of};
 
 // The number where there is no such command, or not with this length.
 pub const BAD_COMMAND: u32 = 71;
@@ -72,7 +72,7 @@ fn follows_of(opcode: Opcode, payload: &[u8]) -> Follows
 pub fn judge(number: u32, payload: &[u8], answer: &[u8]) -> Judged
     ensures { result ≡ judged_of (lent number payload.now answer.now) }
 {
-    let Lookup::Known(opcode) = opcode_of(number) else {
+    let Some(opcode) = opcode_of(number) else {
         return Judged::Refused(BAD_COMMAND);
     };
     let size = payload.len();

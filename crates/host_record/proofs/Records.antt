@@ -1,5 +1,6 @@
 -- A record that is read stands for a sound step, and a sound step's record is read as that step.
 -- Assumes nothing.
+use Rattle.std.specs.Prelude.{Option, Some, None}
 use Prim.Native.Nat.{ℕ, ◌<◌}
 use native.Mathlib.Omega.{arith}
 use mathlib.Core.Path.{◌≡◌, refl, ap, subst}
@@ -17,8 +18,6 @@ use Rattle.host_flow.specs.declared.step.Step.TheVariants.{TakeGreeting, SendHea
 use Rattle.host_flow.specs.Fresh.{kind_number}
 use Rattle.host_flow.specs.Sound.{HasAnswer, SoundStep}
 use Rattle.host_record.specs.declared.Numbers.{Numbers}
-use Rattle.host_record.specs.declared.Found.{Found}
-use Rattle.host_record.specs.declared.Found.TheVariants.{At, Unsound}
 use Rattle.host_record.specs.Record.{numbers, numbers_of, written, step_of, only_first, places_behind, places_of, decoded_of}
 
 -- a place below `only_first` is there only if bytes are, and it is 0
@@ -80,19 +79,19 @@ step_sound x n p =
     in-cond Q (eqb k 15) _ _ (λ e. some-place f n.place (rw same.2 at (rw (eqb-true k 15 e) at p))) (λ e15.
     in-cond Q (eqb k 16) _ _ (λ e. look-place f n.place (rw (eqb-true k 16 e) at p)) (λ e16. tt)))))))))))))))))
 
-abbrev InFound : Exchange → Found → Type 0
-InFound x (At step) = SoundStep x step
-InFound x Unsound = Unit {0}
+abbrev InFound : Exchange → Option Step → Type 0
+InFound x (Some step) = SoundStep x step
+InFound x None = Unit {0}
 
 -- a record that is read stands for a sound step
-pub decoded-sound : (x : Exchange) (r : Record) (s : Step) → decoded_of x r ≡ At s → SoundStep x s
+pub decoded-sound : (x : Exchange) (r : Record) (s : Step) → decoded_of x r ≡ Some s → SoundStep x s
 unfolding decoded_of
-decoded-sound x r s e = subst (λ (d : Found). InFound x d) e whole
+decoded-sound x r s e = subst (λ (d : Option Step). InFound x d) e whole
   where
     n : Numbers
     n = numbers r.phase r.place r.held
 
-    whole : InFound x (cond (eqb r.kind kind_number && ltb r.place (places_of x r.phase)) (At (step_of n)) Unsound)
+    whole : InFound x (cond (eqb r.kind kind_number && ltb r.place (places_of x r.phase)) (Some (step_of n)) None)
     whole =
         in-cond (InFound x) (eqb r.kind kind_number && ltb r.place (places_of x r.phase)) _ _
         (λ t. step_sound x n (ltb-true _ _ (both_true (eqb r.kind kind_number) (ltb r.place (places_of x r.phase)) t).1)) (λ t. tt)
@@ -158,6 +157,6 @@ in_place x Look h = place-look x.follows h
 in_place x Over h = omega arith
 
 -- a sound step is read back from its record
-pub reads_back : (x : Exchange) (s : Step) (reason : ℕ) → SoundStep x s → decoded_of x (written s reason) ≡ At s
+pub reads_back : (x : Exchange) (s : Step) (reason : ℕ) → SoundStep x s → decoded_of x (written s reason) ≡ Some s
 unfolding decoded_of written
-reads_back x s reason h = rw (lt-ltb _ _ (in_place x s h)) (ap At (step_back s))
+reads_back x s reason h = rw (lt-ltb _ _ (in_place x s h)) (ap Some (step_back s))

@@ -1,7 +1,7 @@
 -- The host's record, and which ones are unsound (rules, 15.6). Numbers that a phase does not use are ignored when a record comes in, but for
 -- the place. They are 0 in every record that an accepted call hands out.
 -- Assumes nothing.
-use Rattle.std.specs.Prelude.{ℕ, cond, ◌&&◌, eqb, ltb}
+use Rattle.std.specs.Prelude.{ℕ, cond, ◌&&◌, eqb, ltb, Option, Some, None}
 use Rattle.machine.specs.declared.Record.{Record}
 use Rattle.host_command.specs.declared.Follows.{Follows}
 use Rattle.host_command.specs.declared.Follows.TheVariants.{Answers, Runs, Greets}
@@ -11,8 +11,6 @@ use Rattle.host_flow.specs.declared.step.Step.TheVariants.{TakeGreeting, SendHea
 use Rattle.host_flow.specs.Flow.{greeting_length, header_length}
 use Rattle.host_flow.specs.Fresh.{kind_number}
 use Rattle.host_record.specs.declared.Numbers.{Numbers}
-use Rattle.host_record.specs.declared.Found.{Found}
-use Rattle.host_record.specs.declared.Found.TheVariants.{At, Unsound}
 
 abbrev pub numbers : (phase place held : ℕ) → Numbers
 numbers phase place held = record { phase = phase; place = place; held = held }
@@ -101,8 +99,8 @@ places_of x phase =
     0))))))
 
 -- what a record stands for, with this command
-unfoldable pub decoded_of : Exchange → Record → Found
+unfoldable pub decoded_of : Exchange → Record → Option Step
 decoded_of x r =
     cond (eqb r.kind kind_number && ltb r.place (places_of x r.phase))
-    (At (step_of (numbers r.phase r.place r.held)))
-    Unsound
+    (Some (step_of (numbers r.phase r.place r.held)))
+    None

@@ -18,13 +18,6 @@ pub struct Numbers {
     pub held: u32,
 }
 
-// The step that a record stands for.
-#[derive(Clone, Copy)]
-pub enum Found {
-    At(Step),
-    Unsound,
-}
-
 fn fields(phase: u32, place: u32, held: u32) -> Numbers
     ensures { result ≡ record { phase = phase; place = place; held = held } }
 {
@@ -168,14 +161,14 @@ fn places_of(x: Exchange, phase: u32) -> u32
 }
 
 // What a record stands for, with this command.
-pub fn decode(x: Exchange, session: Record) -> Found
+pub fn decode(x: Exchange, session: Record) -> Option<Step>
     ensures { result ≡ decoded_of x session }
 {
     if session.kind != Host::KIND {
-        return Found::Unsound;
+        return None;
     }
     if session.place < places_of(x, session.phase) {
-        return Found::At(step_of(fields(session.phase, session.place, session.held)));
+        return Some(step_of(fields(session.phase, session.place, session.held)));
     }
-    Found::Unsound
+    None
 }

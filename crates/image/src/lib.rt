@@ -10,7 +10,7 @@ ghost use Rattle.image.specs.Valid.{image_at};
 
 use crate::rule::{first_broken, number_of};
 use numbers::number32_at;
-use wire::range::{Place, place_in};
+use wire::range::place_in;
 
 // How many bytes an image header has; the code begins there.
 pub const HEADER: usize = 64;
@@ -41,7 +41,7 @@ pub fn is_marked(memory: &[u8], offset: usize, second: u8) -> bool
 pub fn image_at(memory: &[u8], offset: usize) -> Image
     ensures { result ≡ image_at memory.now offset }
 {
-    let Place::Inside(_) = place_in(offset, HEADER, 0, memory.len()) else {
+    let Some(_) = place_in(offset, HEADER, 0, memory.len()) else {
         return Image::Invalid;
     };
     if number_of(first_broken(memory, offset)) == 0 {

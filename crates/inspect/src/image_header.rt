@@ -5,7 +5,7 @@ ghost use Rattle.inspect.specs.Image.{read_image};
 use image::HEADER;
 use image::rule::{Rule, first_broken, number_of};
 use numbers::number32_at;
-use wire::range::{Place, place_in};
+use wire::range::place_in;
 
 // Where the version's field begins in the header.
 const VERSION: usize = 12;
@@ -26,7 +26,7 @@ pub fn read_image(memory: &[u8], offset: u32) -> ImageRead
     ensures { result ≡ read_image memory.now offset }
 {
     let start = offset as usize;
-    let Place::Inside(_) = place_in(start, HEADER, 0, memory.len()) else {
+    let Some(_) = place_in(start, HEADER, 0, memory.len()) else {
         return ImageRead {
             rule: number_of(Rule::Header),
             id: 0,

@@ -1,8 +1,6 @@
 -- What a command's payload says, in numbers (rules, 6.7), or its refusal with 11 or 12 (rules, 2.3).
 -- Assumes nothing.
-use Rattle.std.specs.Prelude.{ℕ, List, cond, not, ltb, length}
-use Rattle.opcodes.specs.declared.Lookup.{Lookup}
-use Rattle.opcodes.specs.declared.Lookup.TheVariants.{Known, Unknown}
+use Rattle.std.specs.Prelude.{ℕ, List, cond, not, ltb, length, Option, Some, None}
 use Rattle.command.specs.declared.payload.Command.{Command}
 use Rattle.command.specs.declared.payload.Command.TheVariants.{Write, Read, Copy, Erase, Run, ReadQspi, Version, ChipErase, DirectWrite}
 use Rattle.opcodes.specs.Opcode.{unknown_opcode, bad_length, opcode_of, has_length}
@@ -32,9 +30,9 @@ numbers_of Version = says 0 0 0 0
 numbers_of ChipErase = says 0 0 0 0
 numbers_of (DirectWrite verify offset n) = says 0 offset.0 n verify
 
-abbrev pub read_by : Lookup → (payload : List ℕ) → CommandRead
-read_by Unknown payload = refused unknown_opcode
-read_by (Known opcode) payload =
+abbrev pub read_by : Option Opcode → (payload : List ℕ) → CommandRead
+read_by None payload = refused unknown_opcode
+read_by (Some opcode) payload =
     cond (ltb longest_payload (length payload)) (refused bad_length)
     (cond (not (has_length opcode (length payload))) (refused bad_length)
     (numbers_of (command_of opcode (length payload) payload)))

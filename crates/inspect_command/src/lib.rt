@@ -5,7 +5,7 @@ ghost use Rattle.std.specs.Prelude.{◌≡◌};
 ghost use Rattle.inspect_command.specs.Command.{refused, says, numbers_of, read_command};
 
 use command::payload::{Command, command_of};
-use opcodes::{BAD_LENGTH, Lookup, UNKNOWN_OPCODE, has_length, opcode_of};
+use opcodes::{BAD_LENGTH, UNKNOWN_OPCODE, has_length, opcode_of};
 
 // The longest payload whose length two bytes can say.
 const LONGEST: usize = 65_535;
@@ -65,7 +65,7 @@ fn numbers_of(command: Command) -> CommandRead
 pub fn read_command(opcode: u32, payload: &[u8]) -> CommandRead
     ensures { result ≡ read_command opcode payload.now }
 {
-    let Lookup::Known(known) = opcode_of(opcode) else {
+    let Some(known) = opcode_of(opcode) else {
         return refused(UNKNOWN_OPCODE);
     };
     if LONGEST < payload.len() {

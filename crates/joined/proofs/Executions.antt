@@ -1,5 +1,6 @@
 -- Which actions of the device execute a command.
 -- Assumes nothing.
+use Rattle.std.specs.Prelude.{Option, Some, None}
 use Prim.Native.Nat.{ℕ, ◌+◌}
 use mathlib.Core.Path.{◌≡◌, refl}
 use mathlib.Core.Bool.{false, not}
@@ -11,8 +12,6 @@ use Rattle.wire.proofs.Tests.{in-cond}
 use Rattle.numbers.specs.Number.{paired}
 use Rattle.memory.specs.Memories.{Memories}
 use Rattle.opcodes.specs.declared.Opcode.{Opcode}
-use Rattle.opcodes.specs.declared.Lookup.{Lookup}
-use Rattle.opcodes.specs.declared.Lookup.TheVariants.{Known, Unknown}
 use Rattle.opcodes.specs.Opcode.{opcode_of, has_length}
 use Rattle.command.specs.Payload.{command_of}
 use Rattle.command_execution.specs.Execution.{checked}
@@ -30,9 +29,9 @@ use Rattle.joined.specs.Executions.{executes_in, ExecutionsAre}
 abbrev Same : Memories → State → Type 0
 Same m t = (t.mem.ram ≡ m.ram) × (t.mem.flash ≡ m.flash)
 
-heads : (reason size : ℕ) (m : Memories) (l : Lookup) → Same m (headed reason m l size)
-heads reason size m Unknown = (refl, refl)
-heads reason size m (Known opcode) =
+heads : (reason size : ℕ) (m : Memories) (l : Option Opcode) → Same m (headed reason m l size)
+heads reason size m None = (refl, refl)
+heads reason size m (Some opcode) =
     in-cond (Same m) (not (has_length opcode size)) _ _ (λ t. (refl, refl)) (λ t.
     in-cond (Same m) (ltb (length m.work) size) _ _ (λ u. (refl, refl)) (λ u. (refl, refl)))
 

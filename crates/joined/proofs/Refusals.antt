@@ -1,5 +1,6 @@
 -- The host's definition and the device's close on each other too where the session refuses the command.
 -- Assumes nothing.
+use Rattle.std.specs.Prelude.{Option, Some, None}
 use Prim.Native.Nat.{ℕ, ◌+◌, ◌≤◌, ◌<◌}
 use native.Mathlib.Omega.{arith}
 use mathlib.Core.Path.{◌≡◌, refl, ap, ◌∙◌}
@@ -10,8 +11,6 @@ use lib.ListN.{length}
 use borrow.Author.Tests.{le-leb, le-ltb}
 use Rattle.wire.specs.Line.{nak}
 use Rattle.wire.specs.Range.{lies_in}
-use Rattle.wire.specs.declared.range.Place.{Place}
-use Rattle.wire.specs.declared.range.Place.TheVariants.{Inside, Outside}
 use Rattle.wire.specs.Unit.{ram_base, ram_place, flash_place}
 use Rattle.wire.proofs.Lengths.{work-bounds}
 use Rattle.wire.proofs.Tests.{in-cond}
@@ -81,9 +80,9 @@ bare-passes DirectWrite m h fits = absurd (false≢true h)
 abbrev Reason : ℕ → Type 0
 Reason n = (n ≡ 0 → ⊥) → is_among payload_reasons n ≡ true
 
-end-reason : (first : Place) → Reason (wrong_end first)
-end-reason Outside z = refl
-end-reason (Inside place) z = refl
+end-reason : (first : Option ℕ) → Reason (wrong_end first)
+end-reason None z = refl
+end-reason (Some place) z = refl
 
 reasons : (ram flash work : ℕ) (c : Checks) → Reason (judged ram flash work c)
 unfolding judged

@@ -1,5 +1,6 @@
 -- Laws of little-endian numbers, over the width.
 -- Assumes nothing.
+use Rattle.std.specs.Prelude.{Some, None}
 use Prim.Native.Nat.{ℕ, zero, suc, ◌+◌, ◌/◌, ◌^◌, ◌≤◌, ◌<◌}
 use mathlib.Core.Path.{◌≡◌, refl, ap}
 use mathlib.Core.List.{List, [], ◌∷◌}
@@ -8,8 +9,6 @@ use native.Mathlib.Omega.{arith}
 use lib.ListN.{length, take, drop, get_or}
 use lib.Seq.{drop-cons}
 use borrow.Author.Tests.{le-leb}
-use Rattle.numbers.specs.declared.Reading.TheVariants.{Number, Missing}
-use Rattle.wire.specs.declared.range.Place.TheVariants.{Inside, Outside}
 use Rattle.wire.specs.Range.{place_in}
 use Rattle.wire.proofs.Ranges.{range-known, range-over}
 use Rattle.numbers.specs.Number.{number_of, bytes_of, number_at, read_at}
@@ -38,19 +37,19 @@ pub number-at : (more : ℕ) (s : List ℕ) (p : ℕ) → p + suc more ≤ lengt
 unfolding number_at
 number-at w s p h = ap number_of (rw add-zero at (elements-taken s p 0 (suc w) (omega (arith, h))))
 
-module _ (w : ℕ) (s : List ℕ) (p : ℕ) {place : ℕ} (e : place_in p w 0 (length s) ≡ Inside place) where
+module _ (w : ℕ) (s : List ℕ) (p : ℕ) {place : ℕ} (e : place_in p w 0 (length s) ≡ Some place) where
   -- the place is judged to be inside: all bytes of the number are there
   pub inside-fits : place + w ≤ length s
   inside-fits = omega (arith, range-known p w 0 (length s) place e)
 
-  pub read-inside : read_at w s p ≡ Number (number_at w s place)
+  pub read-inside : read_at w s p ≡ Some (number_at w s place)
   unfolding read_at
   read-inside =
       let same : p ≡ place = omega (arith, range-known p w 0 (length s) place e) in
       let fits : p + w ≤ length s = omega (arith, range-known p w 0 (length s) place e) in
-      rw (le-leb (p + w) (length s) fits) (ap (λ (q : ℕ). Number (number_at w s q)) same)
+      rw (le-leb (p + w) (length s) fits) (ap (λ (q : ℕ). Some (number_at w s q)) same)
 
 -- it is judged not to be
-pub read-outside : (w : ℕ) (s : List ℕ) (p : ℕ) → place_in p w 0 (length s) ≡ Outside → read_at w s p ≡ Missing
+pub read-outside : (w : ℕ) (s : List ℕ) (p : ℕ) → place_in p w 0 (length s) ≡ None → read_at w s p ≡ None
 unfolding read_at
 read-outside w s p e = rw (range-over p w (length s) e)

@@ -1,8 +1,6 @@
 -- Little-endian numbers of any width (rules, 1.6).
 -- Assumes nothing.
-use Rattle.std.specs.Prelude.{ℕ, zero, suc, ◌+◌, ◌*◌, ◌/◌, ◌%◌, List, [], ◌∷◌, cond, length, take, drop, leb}
-use Rattle.numbers.specs.declared.Reading.{Reading}
-use Rattle.numbers.specs.declared.Reading.TheVariants.{Number, Missing}
+use Rattle.std.specs.Prelude.{ℕ, zero, suc, ◌+◌, ◌*◌, ◌/◌, ◌%◌, List, [], ◌∷◌, cond, length, take, drop, leb, Option, Some, None}
 
 -- the number that bytes make, the first byte lowest
 abbrev pub number_of : List ℕ → ℕ
@@ -30,5 +28,5 @@ unfoldable pub number_at : (width : ℕ) (bytes : List ℕ) (place : ℕ) → �
 number_at width bytes place = number_of (take width (drop place bytes))
 
 -- the same where all these bytes are there, and else that they are missing
-unfoldable pub read_at : (width : ℕ) (bytes : List ℕ) (place : ℕ) → Reading
-read_at width bytes place = cond (leb (place + width) (length bytes)) (Number (number_at width bytes place)) Missing
+unfoldable pub read_at : (width : ℕ) (bytes : List ℕ) (place : ℕ) → Option ℕ
+read_at width bytes place = cond (leb (place + width) (length bytes)) (Some (number_at width bytes place)) None

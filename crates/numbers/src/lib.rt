@@ -4,7 +4,7 @@
 ghost use Rattle.std.specs.Prelude.{◌≡◌, [], ◌∷◌, ◌+◌, ◌≤◌, length};
 ghost use Rattle.numbers.specs.Number.{number_of, number_at, read_at, paired, low_byte, high_byte};
 
-use wire::range::{Place, place_in};
+use wire::range::place_in;
 
 pub mod put;
 
@@ -43,32 +43,24 @@ pub fn number32_at(bytes: &[u8], place: usize) -> u32
     )
 }
 
-// What reading a number at a place finds.
-#[derive(Clone, Copy)]
-pub enum Reading {
-    Number(u32),
-    // Not all of its bytes are there.
-    Missing,
-}
-
 // The number in the 2 bytes from any place on.
-pub fn read16(bytes: &[u8], place: usize) -> Reading
+pub fn read16(bytes: &[u8], place: usize) -> Option<u32>
     ensures { result ≡ read_at 2 bytes.now place }
 {
-    let Place::Inside(at) = place_in(place, 2, 0, bytes.len()) else {
-        return Reading::Missing;
+    let Some(at) = place_in(place, 2, 0, bytes.len()) else {
+        return None;
     };
-    Reading::Number(number16_at(bytes, at) as u32)
+    Some(number16_at(bytes, at) as u32)
 }
 
 // The number in the 4 bytes from any place on.
-pub fn read32(bytes: &[u8], place: usize) -> Reading
+pub fn read32(bytes: &[u8], place: usize) -> Option<u32>
     ensures { result ≡ read_at 4 bytes.now place }
 {
-    let Place::Inside(at) = place_in(place, 4, 0, bytes.len()) else {
-        return Reading::Missing;
+    let Some(at) = place_in(place, 4, 0, bytes.len()) else {
+        return None;
     };
-    Reading::Number(number32_at(bytes, at))
+    Some(number32_at(bytes, at))
 }
 
 // The number that a low part and a high byte make. A low part from a record may be any number.

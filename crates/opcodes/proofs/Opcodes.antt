@@ -1,5 +1,6 @@
 -- Laws of the opcodes: their numbers, and the payloads that they have.
 -- Assumes nothing.
+use Rattle.std.specs.Prelude.{Option, Some}
 use Prim.Native.Nat.{ℕ, suc, ◌≤◌, ◌<◌}
 use mathlib.Core.Path.{◌≡◌, refl}
 use mathlib.Core.Bool.{Bool, true, false, cond}
@@ -13,12 +14,10 @@ use borrow.Table.Steps.{cases}
 use Rattle.wire.proofs.Tests.{in-cond}
 use Rattle.opcodes.specs.declared.Opcode.{Opcode}
 use Rattle.opcodes.specs.declared.Opcode.TheVariants.{Write, Read, Copy, Erase, Run, ReadQspi, Version, ChipErase, DirectWrite}
-use Rattle.opcodes.specs.declared.Lookup.{Lookup}
-use Rattle.opcodes.specs.declared.Lookup.TheVariants.{Known}
 use Rattle.opcodes.specs.Opcode.{shape_of, opcodes, opcode_number, among_these, opcode_of, has_length, data_place, is_run}
 
 -- an opcode's number stands for it, and no other number does
-pub opcode-back : (opcode : Opcode) → opcode_of (opcode_number opcode) ≡ Known opcode
+pub opcode-back : (opcode : Opcode) → opcode_of (opcode_number opcode) ≡ Some opcode
 unfolding opcode_of
 opcode-back Write = refl
 opcode-back Read = refl
@@ -32,20 +31,20 @@ opcode-back DirectWrite = refl
 
 -- a list of opcodes is gone through: the one at a place has the number, or those after it are left
 module _ (these : List Opcode) (i n : ℕ) (h : i < length these) where
-  pub found_here : opcode_number (get_or these i Write) ≡ n → among_these (drop i these) n ≡ Known (get_or these i Write)
+  pub found_here : opcode_number (get_or these i Write) ≡ n → among_these (drop i these) n ≡ Some (get_or these i Write)
   found_here e = rw (drop-cons these i Write h, eq-eqb _ _ e) refl
 
   pub found-behind : (opcode_number (get_or these i Write) ≡ n → ⊥) → among_these (drop i these) n ≡ among_these (drop (suc i) these) n
   found-behind e = rw (drop-cons these i Write h, ne_eqb _ _ e) refl
 
-found_number : (these : List Opcode) (n : ℕ) (opcode : Opcode) → among_these these n ≡ Known opcode → opcode_number opcode ≡ n
+found_number : (these : List Opcode) (n : ℕ) (opcode : Opcode) → among_these these n ≡ Some opcode → opcode_number opcode ≡ n
 found_number [] n opcode = λ e. cc
 found_number (o ∷ others) n opcode =
-    in-cond (λ (l : Lookup). l ≡ Known opcode → opcode_number opcode ≡ n) (eqb (opcode_number o) n) (Known o) (among_these others n)
+    in-cond (λ (l : Option Opcode). l ≡ Some opcode → opcode_number opcode ≡ n) (eqb (opcode_number o) n) (Some o) (among_these others n)
     (λ t e. let same : opcode_number o ≡ n = eqb-true (opcode_number o) n t in cc)
     (λ t. found_number others n opcode)
 
-pub opcode-number : (n : ℕ) (opcode : Opcode) → opcode_of n ≡ Known opcode → opcode_number opcode ≡ n
+pub opcode-number : (n : ℕ) (opcode : Opcode) → opcode_of n ≡ Some opcode → opcode_number opcode ≡ n
 unfolding opcode_of
 opcode-number n opcode e = found_number opcodes n opcode e
 
@@ -61,8 +60,8 @@ never-shorter opcode n e = long-enough (shape_of opcode).2 (data_place opcode) n
 run_alone : (opcode : Opcode) → is_run opcode ≡ true → opcode ≡ Run
 run_alone opcode e =
     let same : opcode_number opcode ≡ opcode_number Run = eqb-true _ _ e in
-    let back : opcode_of (opcode_number opcode) ≡ Known opcode = opcode-back opcode in
-    let run : opcode_of (opcode_number Run) ≡ Known Run = opcode-back Run in
+    let back : opcode_of (opcode_number opcode) ≡ Some opcode = opcode-back opcode in
+    let run : opcode_of (opcode_number Run) ≡ Some Run = opcode-back Run in
     cc
 
 -- Run has a payload

@@ -1,11 +1,9 @@
 -- The opcodes, a row for each (rules, 6.6).
 -- Assumes nothing.
-use Rattle.std.specs.Prelude.{ℕ, ◌≡◌, Bool, true, false, cond, List, [], ◌∷◌, eqb, ltb}
+use Rattle.std.specs.Prelude.{ℕ, ◌≡◌, Bool, true, false, cond, List, [], ◌∷◌, eqb, ltb, Option, Some, None}
 use Rattle.opcodes.specs.declared.Opcode.{Opcode}
 use Rattle.opcodes.specs.declared.Opcode.TheVariants.{Write, Read, Copy, Erase, Run, ReadQspi, Version, ChipErase, DirectWrite}
 use Rattle.opcodes.specs.declared.Shape.{Shape}
-use Rattle.opcodes.specs.declared.Lookup.{Lookup}
-use Rattle.opcodes.specs.declared.Lookup.TheVariants.{Known, Unknown}
 
 -- the reasons: unknown opcode; a length that the opcode doesn't have
 abbrev pub unknown_opcode : ℕ
@@ -44,11 +42,11 @@ abbrev pub opcode_number : Opcode → ℕ
 opcode_number opcode = (shape_of opcode).0
 
 -- the first of these opcodes that has the number
-abbrev pub among_these : List Opcode → (number : ℕ) → Lookup
-among_these [] number = Unknown
-among_these (opcode ∷ others) number = cond (eqb (opcode_number opcode) number) (Known opcode) (among_these others number)
+abbrev pub among_these : List Opcode → (number : ℕ) → Option Opcode
+among_these [] number = None
+among_these (opcode ∷ others) number = cond (eqb (opcode_number opcode) number) (Some opcode) (among_these others number)
 
-unfoldable pub opcode_of : (number : ℕ) → Lookup
+unfoldable pub opcode_of : (number : ℕ) → Option Opcode
 opcode_of number = among_these opcodes number
 
 -- the payload lengths that an opcode has

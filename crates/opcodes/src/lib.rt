@@ -40,13 +40,6 @@ const OPCODES: [Opcode; 9] = [
 #[derive(Clone, Copy)]
 pub struct Shape(pub u32, pub u32, pub bool, pub bool);
 
-// What a number says: an opcode, or none.
-#[derive(Clone, Copy)]
-pub enum Lookup {
-    Known(Opcode),
-    Unknown,
-}
-
 // An opcode's row.
 pub fn shape_of(opcode: Opcode) -> Shape
     ensures { SameShape result (shape_of opcode) }
@@ -72,7 +65,7 @@ pub fn number_of(opcode: Opcode) -> u32
 }
 
 // The opcode that a number stands for.
-pub fn opcode_of(number: u32) -> Lookup
+pub fn opcode_of(number: u32) -> Option<Opcode>
     ensures { result ≡ opcode_of number }
 {
     let all = OPCODES;
@@ -80,11 +73,11 @@ pub fn opcode_of(number: u32) -> Lookup
     while i < all.len() {
         let opcode = all[i];
         if number_of(opcode) == number {
-            return Lookup::Known(opcode);
+            return Some(opcode);
         }
         i += 1;
     }
-    Lookup::Unknown
+    None
 }
 
 // Whether an opcode has payloads of this length.

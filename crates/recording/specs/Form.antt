@@ -1,10 +1,8 @@
 -- The form of a recording's file (rules, 16.1): a head, the mark BLG and a version, and then entries, each a kind, a length and bytes. What
 -- may be wrong with head and entry (rules, 16.2).
 -- Assumes nothing.
-use Rattle.std.specs.Prelude.{ℕ, ◌+◌, Bool, false, cond, not, ◌&&◌, ◌||◌, List, [], ◌∷◌, eqb, leb, length, get_or, take, drop}
+use Rattle.std.specs.Prelude.{ℕ, ◌+◌, Bool, false, cond, not, ◌&&◌, ◌||◌, List, [], ◌∷◌, eqb, leb, length, get_or, take, drop, Option, Some, None}
 use Rattle.numbers.specs.Number.{number_at, read_at}
-use Rattle.numbers.specs.declared.Reading.{Reading}
-use Rattle.numbers.specs.declared.Reading.TheVariants.{Number, Missing}
 use Rattle.memory.specs.Compare.{is_front}
 
 -- the numbers given
@@ -28,9 +26,9 @@ mark = 0x42 ∷ 0x4C ∷ 0x47 ∷ []
 abbrev pub form_version : ℕ
 form_version = 1
 
-abbrev pub is_version : Reading → Bool
-is_version (Number version) = eqb version form_version
-is_version Missing = false
+abbrev pub is_version : Option ℕ → Bool
+is_version (Some version) = eqb version form_version
+is_version None = false
 
 -- how many bytes the head has
 abbrev pub head_length : ℕ

@@ -5,7 +5,7 @@ ghost use Rattle.recording.specs.Form.{mark, head_fault, is_kind, size_in, entry
 ghost use Rattle.recording.specs.Recording.{recording_of, fault_of};
 
 use memory::compare::is_front;
-use numbers::{Reading, number16_at, read16};
+use numbers::{number16_at, read16};
 
 // The numbers given for what is wrong with a file.
 const BAD_MARK: u32 = 81;
@@ -49,13 +49,13 @@ fn head_fault(file: &[u8]) -> u32
         return BAD_MARK;
     }
     match read16(file, MARK.len()) {
-        Reading::Number(version) => {
+        Some(version) => {
             if version == VERSION {
                 return 0;
             }
             BAD_VERSION
         }
-        Reading::Missing => BAD_VERSION,
+        None => BAD_VERSION,
     }
 }
 

@@ -1,5 +1,6 @@
 -- Every record that calls can reach is accepted.
 -- Assumes nothing.
+use Rattle.std.specs.Prelude.{Option, Some, None}
 use Prim.Native.Nat.{ℕ}
 use mathlib.Core.Path.{◌≡◌, refl, sym, subst, ◌∙◌}
 use mathlib.Core.Bool.{Bool, true, false, cond}
@@ -18,8 +19,6 @@ use Rattle.rom_flow.specs.State.{State, state}
 use Rattle.rom_flow.specs.Fresh.{kind_number, fresh_record, fresh}
 use Rattle.rom_flow.proofs.Sounds.{Held}
 use Rattle.rom_flow.proofs.Laws.{held}
-use Rattle.rom_record.specs.declared.Decoded.{Decoded}
-use Rattle.rom_record.specs.declared.Decoded.TheVariants as decoded
 use Rattle.rom_record.specs.Record.{written, decoded_of}
 use Rattle.rom.specs.Session.{rom}
 use Rattle.rom_record.proofs.Records.{decoded-sound, reads_back}
@@ -37,11 +36,11 @@ starts kind ram = refl
 read_held : (r : Record) (ram : List ℕ) (s : State) → rom.refusal ram ≡ 0 → rom.read r ram ≡ sound s → Held ram s
 read_held r ram s f e = go (decoded_of (length ram) r) refl
   where
-    go : (d : Decoded) → decoded_of (length ram) r ≡ d → Held ram s
-    go (decoded.Sound kind step) q =
+    go : (d : Option (Kind × Step)) → decoded_of (length ram) r ≡ d → Held ram s
+    go (Some (kind, step)) q =
         let is : state kind step r.reason ram ≡ s = sound-same (state kind step r.reason ram) s (rw q at e) in
         subst (Held ram) is (record { ready = record { fits = ram-fits (is_ram_length (length ram)) f; step_sound = decoded-sound (length ram) r kind step q }; same = refl })
-    go decoded.Unsound q = absurd (never-sound s (rw q at e))
+    go None q = absurd (never-sound s (rw q at e))
 
 abbrev SameLength : (ram' ram : List ℕ) → Type 0
 SameLength ram' ram = length ram' ≡ length ram

@@ -1,18 +1,16 @@
 -- The receiver's session: a call on a record, input, reply and RAM. It is refused with 2 or 4 (rules, 2.1).
 -- Assumes nothing.
-use Rattle.std.specs.Prelude.{ℕ, cond, List, length}
+use Rattle.std.specs.Prelude.{ℕ, cond, List, length, Option, Some, None}
 use Rattle.wire.specs.Length.{is_ram_length, bad_ram}
 use Rattle.machine.specs.Session.{Read, sound, unsound, Session, Result}
 use Rattle.machine.specs.declared.Report.{Report}
-use Rattle.rom_record.specs.declared.Decoded.{Decoded}
-use Rattle.rom_record.specs.declared.Decoded.TheVariants.{Sound, Unsound}
 use Rattle.rom_flow.specs.State.{State, state}
 use Rattle.rom_flow.specs.Receiver.{receiver}
 use Rattle.rom_record.specs.Record.{written, decoded_of}
 
-abbrev pub read_of : Decoded → (reason : ℕ) (ram : List ℕ) → Read State
-read_of (Sound kind step) reason ram = sound (state kind step reason ram)
-read_of Unsound reason ram = unsound
+abbrev pub read_of : Option (Kind × Step) → (reason : ℕ) (ram : List ℕ) → Read State
+read_of (Some (kind, step)) reason ram = sound (state kind step reason ram)
+read_of None reason ram = unsound
 
 abbrev pub rom : Session ℕ (List ℕ) State
 rom =

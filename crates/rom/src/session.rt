@@ -11,7 +11,7 @@ use machine::{BAD_RECORD, Record, Report, advance, refused};
 use rom_flow::ask::{Ask, ask_of};
 use rom_flow::kind::Kind;
 use rom_flow::step::Step;
-use rom_record::{Decoded, decode, encode};
+use rom_record::{decode, encode};
 use rom_turn::{send, take};
 use wire::length::{BAD_RAM, is_ram_length};
 
@@ -82,7 +82,7 @@ pub fn call(session: Record, input: &[u8], reply: &mut [u8], ram: &mut [u8]) -> 
         return refused(BAD_RAM, session);
     }
     match decode(size as u32, session) {
-        Decoded::Sound(kind, step) => {
+        Some((kind, step)) => {
             let end = act(kind, step, session.reason, input, reply, ram);
             let reached = end.step;
             Report {
@@ -93,6 +93,6 @@ pub fn call(session: Record, input: &[u8], reply: &mut [u8], ram: &mut [u8]) -> 
                 session: encode(kind, reached, end.reason),
             }
         }
-        Decoded::Unsound => refused(BAD_RECORD, session),
+        None => refused(BAD_RECORD, session),
     }
 }

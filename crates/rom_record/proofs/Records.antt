@@ -1,5 +1,6 @@
 -- A record that is read stands for a sound step, and a sound step's record is read as that step.
 -- Assumes nothing.
+use Rattle.std.specs.Prelude.{Option, Some, None}
 use Prim.Native.Nat.{ℕ, ◌<◌}
 use native.Mathlib.Omega.{arith}
 use mathlib.Core.Path.{◌≡◌, refl, ap, subst}
@@ -13,24 +14,19 @@ use Rattle.rom_flow.specs.declared.step.Step.TheVariants.{SendStx, Header, SendA
 use Rattle.rom_flow.specs.declared.step.HeaderStep.{HeaderStep}
 use Rattle.rom_flow.specs.declared.step.HeaderStep.TheVariants.{TakeSoh, TakeLow, TakeHigh, TakeExtendedLow, TakeExtendedHigh}
 use Rattle.rom_record.specs.declared.Numbers.{Numbers}
-use Rattle.rom_record.specs.declared.Found.{Found}
-use Rattle.rom_record.specs.declared.Found.TheVariants.{At}
-use Rattle.rom_record.specs.declared.Found.TheVariants as found
-use Rattle.rom_record.specs.declared.Decoded.{Decoded}
-use Rattle.rom_record.specs.declared.Decoded.TheVariants as decoded
 use Rattle.wire.specs.Unit.{is_in_ram}
 use Rattle.wire.proofs.Tests.{in-cond}
 use Rattle.machine.specs.declared.Record.{Record}
 use Rattle.rom_record.specs.Record.{fields, header_fields, fields_of, written, sized, extended, places_of, phase_in, step_in, with_kind, decoded_of}
 use Rattle.rom_flow.specs.Sound.{SoundHeader, SoundStep, Sized, Extends}
 
-abbrev InFound : Kind → ℕ → Found → Type 0
-InFound kind size (At step) = SoundStep kind size step
-InFound kind size found.Unsound = Unit {0}
+abbrev InFound : Kind → ℕ → Option Step → Type 0
+InFound kind size (Some step) = SoundStep kind size step
+InFound kind size None = Unit {0}
 
-abbrev InDecoded : ℕ → Decoded → Type 0
-InDecoded size (decoded.Sound kind step) = SoundStep kind size step
-InDecoded size decoded.Unsound = Unit {0}
+abbrev InDecoded : ℕ → Option (Kind × Step) → Type 0
+InDecoded size (Some (kind, step)) = SoundStep kind size step
+InDecoded size None = Unit {0}
 
 sized-in : (kind : Kind) (size n : ℕ) (s : Step) → (Sized size n → SoundStep kind size s) → InFound kind size (sized size n s)
 sized-in kind size n s f =
@@ -64,32 +60,32 @@ unfolding step_in
 step-in kind size n =
     in-cond (InFound kind size) (ltb n.place (places_of n.phase n.length)) _ _ (λ e. phase-in kind size n (ltb-true _ _ e)) (λ e. tt)
 
-kind-in : (kind : Kind) (size : ℕ) (f : Found) → InFound kind size f → InDecoded size (with_kind kind f)
-kind-in kind size (At step) h = h
-kind-in kind size found.Unsound h = tt
+kind-in : (kind : Kind) (size : ℕ) (f : Option Step) → InFound kind size f → InDecoded size (with_kind kind f)
+kind-in kind size (Some step) h = h
+kind-in kind size None h = tt
 
 -- a record that is read stands for a sound step
-pub decoded-sound : (size : ℕ) (r : Record) (kind : Kind) (s : Step) → decoded_of size r ≡ decoded.Sound kind s → SoundStep kind size s
+pub decoded-sound : (size : ℕ) (r : Record) (kind : Kind) (s : Step) → decoded_of size r ≡ Some kind s → SoundStep kind size s
 unfolding decoded_of
-decoded-sound size r kind s e = subst (λ (d : Decoded). InDecoded size d) e whole
+decoded-sound size r kind s e = subst (λ (d : Option (Kind × Step)). InDecoded size d) e whole
   where
     n : Numbers
     n = fields r.phase r.length r.place r.held
 
-    whole : InDecoded size (cond (eqb r.kind 0) (with_kind P (step_in P size n)) (cond (eqb r.kind 1) (with_kind E (step_in E size n)) decoded.Unsound))
+    whole : InDecoded size (cond (eqb r.kind 0) (with_kind P (step_in P size n)) (cond (eqb r.kind 1) (with_kind E (step_in E size n)) None))
     whole =
         in-cond (InDecoded size) (eqb r.kind 0) _ _ (λ e. kind-in P size (step_in P size n) (step-in P size n)) (λ e.
         in-cond (InDecoded size) (eqb r.kind 1) _ _ (λ e. kind-in E size (step_in E size n) (step-in E size n)) (λ e. tt))
 
-sized-back : (size n : ℕ) (s : Step) → Sized size n → sized size n s ≡ At s
+sized-back : (size n : ℕ) (s : Step) → Sized size n → sized size n s ≡ Some s
 sized-back size n s h = simp (ne_eqb n 0 (λ e. let z : ⊥ = omega (arith, h.0) in z), le-leb _ _ h.1)
 
-extended-back : (kind : Kind) (s : Step) → Extends kind → extended kind s ≡ At s
+extended-back : (kind : Kind) (s : Step) → Extends kind → extended kind s ≡ Some s
 extended-back P s h = absurd h
 extended-back E s h = refl
 
 -- every sound step is read back from its numbers
-header-back : (kind : Kind) (size : ℕ) (s : HeaderStep) → SoundHeader kind s → step_in kind size (header_fields s) ≡ At (Header s)
+header-back : (kind : Kind) (size : ℕ) (s : HeaderStep) → SoundHeader kind s → step_in kind size (header_fields s) ≡ Some (Header s)
 unfolding step_in phase_in
 header-back kind size TakeSoh h = refl
 header-back kind size TakeLow h = refl
@@ -97,7 +93,7 @@ header-back kind size (TakeHigh low) h = refl
 header-back kind size TakeExtendedLow h = extended-back kind (Header TakeExtendedLow) h
 header-back kind size (TakeExtendedHigh low) h = extended-back kind (Header (TakeExtendedHigh low)) h
 
-step_back : (kind : Kind) (size : ℕ) (s : Step) → SoundStep kind size s → step_in kind size (fields_of s) ≡ At s
+step_back : (kind : Kind) (size : ℕ) (s : Step) → SoundStep kind size s → step_in kind size (fields_of s) ≡ Some s
 unfolding step_in phase_in
 step_back kind size SendStx h = refl
 step_back kind size (Header s) h = header-back kind size s h
@@ -110,7 +106,7 @@ step_back kind size SendNak h = refl
 step_back kind size (Running address) h = rw h refl
 
 -- and from its record
-pub reads_back : (kind : Kind) (size : ℕ) (s : Step) (reason : ℕ) → SoundStep kind size s → decoded_of size (written kind s reason) ≡ decoded.Sound kind s
+pub reads_back : (kind : Kind) (size : ℕ) (s : Step) (reason : ℕ) → SoundStep kind size s → decoded_of size (written kind s reason) ≡ Some kind s
 unfolding decoded_of written
 reads_back P size s reason h = ap (with_kind P) (step_back P size s h)
 reads_back E size s reason h = ap (with_kind E) (step_back E size s h)

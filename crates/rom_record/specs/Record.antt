@@ -1,7 +1,7 @@
 -- The receiver's record, and which ones are unsound (rules, 4.5). Numbers that a phase does not use are ignored when a record comes in,
 -- but for the place. They are 0 in every record that an accepted call hands out.
 -- Assumes nothing.
-use Rattle.std.specs.Prelude.{ℕ, cond, eqb, leb, ltb}
+use Rattle.std.specs.Prelude.{ℕ, cond, eqb, leb, ltb, Option, Some, None}
 use Rattle.wire.specs.Unit.{is_in_ram}
 use Rattle.machine.specs.declared.Record.{Record}
 use Rattle.rom_flow.specs.declared.kind.Kind.{Kind}
@@ -12,11 +12,6 @@ use Rattle.rom_flow.specs.declared.step.HeaderStep.{HeaderStep}
 use Rattle.rom_flow.specs.declared.step.HeaderStep.TheVariants.{TakeSoh, TakeLow, TakeHigh, TakeExtendedLow, TakeExtendedHigh}
 use Rattle.rom_flow.specs.Fresh.{kind_number}
 use Rattle.rom_record.specs.declared.Numbers.{Numbers}
-use Rattle.rom_record.specs.declared.Found.{Found}
-use Rattle.rom_record.specs.declared.Found.TheVariants.{At}
-use Rattle.rom_record.specs.declared.Found.TheVariants as found
-use Rattle.rom_record.specs.declared.Decoded.{Decoded}
-use Rattle.rom_record.specs.declared.Decoded.TheVariants.{Sound, Unsound}
 
 abbrev pub fields : (phase total place held : ℕ) → Numbers
 fields phase total place held = record { phase = phase; length = total; place = place; held = held }
@@ -54,50 +49,50 @@ written kind step reason =
     }
 
 -- with code of 1 byte or more, and no more than a RAM of `size` bytes
-abbrev pub sized : (size total : ℕ) → Step → Found
-sized size total step = cond (eqb total 0) found.Unsound (cond (leb total size) (At step) found.Unsound)
+abbrev pub sized : (size total : ℕ) → Step → Option Step
+sized size total step = cond (eqb total 0) None (cond (leb total size) (Some step) None)
 
 -- code runs in RAM
-abbrev pub running_in : (size address : ℕ) → Found
-running_in size address = cond (is_in_ram (record { 0 = address }) size) (At (Running (record { 0 = address }))) found.Unsound
+abbrev pub running_in : (size address : ℕ) → Option Step
+running_in size address = cond (is_in_ram (record { 0 = address }) size) (Some (Running (record { 0 = address }))) None
 
 -- kind P has no extended length
-abbrev pub extended : Kind → Step → Found
-extended P step = found.Unsound
-extended E step = At step
+abbrev pub extended : Kind → Step → Option Step
+extended P step = None
+extended E step = Some step
 
 -- how many places a phase has: one for each code byte where code is taken, and else only 0
 abbrev pub places_of : (phase total : ℕ) → ℕ
 places_of phase total = cond (eqb phase 7) total 1
 
-unfoldable pub phase_in : Kind → (size : ℕ) → Numbers → Found
+unfoldable pub phase_in : Kind → (size : ℕ) → Numbers → Option Step
 phase_in kind size n =
-    cond (eqb n.phase 0) (At SendStx)
-    (cond (eqb n.phase 1) (At (Header TakeSoh))
-    (cond (eqb n.phase 2) (At (Header TakeLow))
-    (cond (eqb n.phase 3) (At (Header (TakeHigh n.held)))
+    cond (eqb n.phase 0) (Some SendStx)
+    (cond (eqb n.phase 1) (Some (Header TakeSoh))
+    (cond (eqb n.phase 2) (Some (Header TakeLow))
+    (cond (eqb n.phase 3) (Some (Header (TakeHigh n.held)))
     (cond (eqb n.phase 4) (extended kind (Header TakeExtendedLow))
     (cond (eqb n.phase 5) (extended kind (Header (TakeExtendedHigh n.held)))
     (cond (eqb n.phase 6) (sized size n.length (SendAck n.length))
     (cond (eqb n.phase 7) (sized size n.length (TakeCode n.length n.place))
     (cond (eqb n.phase 8) (sized size n.length (SendXor n.length))
     (cond (eqb n.phase 9) (sized size n.length (TakeAck n.length))
-    (cond (eqb n.phase 10) (At SendNak)
+    (cond (eqb n.phase 10) (Some SendNak)
     (cond (eqb n.phase 11) (running_in size n.held)
-    found.Unsound)))))))))))
+    None)))))))))))
 
 -- a place beyond what its phase takes or sends is unsound
-unfoldable pub step_in : Kind → (size : ℕ) → Numbers → Found
-step_in kind size n = cond (ltb n.place (places_of n.phase n.length)) (phase_in kind size n) found.Unsound
+unfoldable pub step_in : Kind → (size : ℕ) → Numbers → Option Step
+step_in kind size n = cond (ltb n.place (places_of n.phase n.length)) (phase_in kind size n) None
 
-abbrev pub with_kind : Kind → Found → Decoded
-with_kind kind (At step) = Sound kind step
-with_kind kind found.Unsound = Unsound
+abbrev pub with_kind : Kind → Option Step → Option (Kind × Step)
+with_kind kind (Some step) = Some (kind, step)
+with_kind kind None = None
 
 -- what a record stands for
-unfoldable pub decoded_of : (size : ℕ) → Record → Decoded
+unfoldable pub decoded_of : (size : ℕ) → Record → Option (Kind × Step)
 decoded_of size r =
     let n = fields r.phase r.length r.place r.held in
     cond (eqb r.kind 0) (with_kind P (step_in P size n))
     (cond (eqb r.kind 1) (with_kind E (step_in E size n))
-    Unsound)
+    None)

@@ -19,20 +19,6 @@ pub struct Numbers {
     pub held: u32,
 }
 
-// The step that numbers stand for.
-#[derive(Clone, Copy)]
-pub enum Found {
-    At(Step),
-    Unsound,
-}
-
-// The kind and step that a record stands for.
-#[derive(Clone, Copy)]
-pub enum Decoded {
-    Sound(Kind, Step),
-    Unsound,
-}
-
 fn fields(phase: u32, total: u32, place: u32, held: u32) -> Numbers
     ensures { result ≡ record { phase = phase; length = total; place = place; held = held } }
 {
@@ -98,37 +84,37 @@ pub fn encode(kind: Kind, step: Step, reason: u32) -> Record
 }
 
 // A step whose code has 1 byte or more, and no more than the RAM.
-fn sized(size: u32, total: u32, step: Step) -> Found
+fn sized(size: u32, total: u32, step: Step) -> Option<Step>
     ensures { result ≡ sized size total step }
 {
     if total == 0 {
-        return Found::Unsound;
+        return None;
     }
     if total <= size {
-        Found::At(step)
+        Some(step)
     } else {
-        Found::Unsound
+        None
     }
 }
 
 // Code runs at an address in RAM.
-fn running_in(size: u32, address: u32) -> Found
+fn running_in(size: u32, address: u32) -> Option<Step>
     ensures { result ≡ running_in size address }
 {
     if RamAddress(address).is_in(size as usize) {
-        Found::At(Step::Running(RamAddress(address)))
+        Some(Step::Running(RamAddress(address)))
     } else {
-        Found::Unsound
+        None
     }
 }
 
 // A step that only kind E has.
-fn extended(kind: Kind, step: Step) -> Found
+fn extended(kind: Kind, step: Step) -> Option<Step>
     ensures { result ≡ extended kind step }
 {
     match kind {
-        Kind::P => Found::Unsound,
-        Kind::E => Found::At(step),
+        Kind::P => None,
+        Kind::E => Some(step),
     }
 }
 
@@ -140,16 +126,16 @@ fn places_of(phase: u32, total: u32) -> u32
 }
 
 // The step of a phase, whatever the place.
-fn phase_in(kind: Kind, size: u32, numbers: Numbers) -> Found
+fn phase_in(kind: Kind, size: u32, numbers: Numbers) -> Option<Step>
     ensures { result ≡ phase_in kind size numbers }
 {
     let phase = numbers.phase;
     let total = numbers.length;
     match phase {
-        0 => Found::At(Step::SendStx),
-        1 => Found::At(Step::Header(HeaderStep::TakeSoh)),
-        2 => Found::At(Step::Header(HeaderStep::TakeLow)),
-        3 => Found::At(Step::Header(HeaderStep::TakeHigh(numbers.held))),
+        0 => Some(Step::SendStx),
+        1 => Some(Step::Header(HeaderStep::TakeSoh)),
+        2 => Some(Step::Header(HeaderStep::TakeLow)),
+        3 => Some(Step::Header(HeaderStep::TakeHigh(numbers.held))),
         4 => extended(kind, Step::Header(HeaderStep::TakeExtendedLow)),
         5 => extended(
             kind,
@@ -159,33 +145,33 @@ fn phase_in(kind: Kind, size: u32, numbers: Numbers) -> Found
         7 => sized(size, total, Step::TakeCode(total, numbers.place)),
         8 => sized(size, total, Step::SendXor(total)),
         9 => sized(size, total, Step::TakeAck(total)),
-        10 => Found::At(Step::SendNak),
+        10 => Some(Step::SendNak),
         11 => running_in(size, numbers.held),
-        _ => Found::Unsound,
+        _ => None,
     }
 }
 
-fn step_in(kind: Kind, size: u32, numbers: Numbers) -> Found
+fn step_in(kind: Kind, size: u32, numbers: Numbers) -> Option<Step>
     ensures { result ≡ step_in kind size numbers }
 {
     if numbers.place < places_of(numbers.phase, numbers.length) {
         phase_in(kind, size, numbers)
     } else {
-        Found::Unsound
+        None
     }
 }
 
-fn with_kind(kind: Kind, found: Found) -> Decoded
+fn with_kind(kind: Kind, found: Option<Step>) -> Option<(Kind, Step)>
     ensures { result ≡ with_kind kind found }
 {
     match found {
-        Found::At(step) => Decoded::Sound(kind, step),
-        Found::Unsound => Decoded::Unsound,
+        Some(step) => Some((kind, step)),
+        None => None,
     }
 }
 
 // What a record stands for, with a RAM of `size` bytes.
-pub fn decode(size: u32, session: Record) -> Decoded
+pub fn decode(size: u32, session: Record) -> Option<(Kind, Step)>
     ensures { result ≡ decoded_of size session }
 {
     let numbers = fields(session.phase, session.length, session.place, session.held);
@@ -193,6 +179,6 @@ pub fn decode(size: u32, session: Record) -> Decoded
     match kind {
         0 => with_kind(Kind::P, step_in(Kind::P, size, numbers)),
         1 => with_kind(Kind::E, step_in(Kind::E, size, numbers)),
-        _ => Decoded::Unsound,
+        _ => None,
     }
 }

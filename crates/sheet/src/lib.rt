@@ -5,7 +5,7 @@ ghost use Rattle.std.specs.Prelude.{◌≡◌};
 ghost use Rattle.sheet.specs.Sheet.{place_of, code_place, Shows};
 
 use image::{HEADER, Image, image_at};
-use wire::range::{Place, place_in};
+use wire::range::place_in;
 
 // The number given where the file is not a valid image.
 pub const BAD_FILE: u32 = 67;
@@ -56,7 +56,7 @@ pub fn part_at<'a>(file: &'a [u8], place: usize) -> &'a [u8]
 {
     let placed = place_of(file);
     let size = placed.size;
-    let Place::Inside(_) = place_in(place, size, 0, file.len()) else {
+    let Some(_) = place_in(place, size, 0, file.len()) else {
         return &file[0..0];
     };
     &file[place..place + size]

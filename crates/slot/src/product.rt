@@ -5,7 +5,6 @@ ghost use Rattle.slot.specs.Product.{product_at};
 use image::is_marked;
 use numbers::number32_at;
 use wire::length::{BAD_FLASH, is_flash_length};
-use wire::range::Place;
 use wire::unit::FlashOffset;
 
 // How many bytes the product header has.
@@ -36,7 +35,7 @@ pub fn product_at(flash: &[u8], offset: u32) -> Product
     if !is_flash_length(flash.len()) {
         return Product::Refused(BAD_FLASH);
     }
-    let Place::Inside(_) = FlashOffset(offset).place(PRODUCT, flash.len()) else {
+    let Some(_) = FlashOffset(offset).place(PRODUCT, flash.len()) else {
         return Product::Refused(NO_HEADER);
     };
     let start = offset as usize;

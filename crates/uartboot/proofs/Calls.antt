@@ -1,5 +1,6 @@
 -- A call's result, case by case.
 -- Assumes nothing.
+use Rattle.std.specs.Prelude.{Option, Some, None}
 use Prim.Native.Nat.{ℕ}
 use native.Mathlib.Omega.{arith}
 use mathlib.Core.Path.{◌≡◌, refl, ap}
@@ -16,8 +17,6 @@ use Rattle.memory.specs.Memories.{Memories, Fitting}
 use Rattle.uartboot_flow.specs.declared.step.Step.{Step}
 use Rattle.uartboot_flow.specs.State.{state}
 use Rattle.uartboot_flow.specs.Device.{device}
-use Rattle.uartboot_record.specs.declared.Found.{Found}
-use Rattle.uartboot_record.specs.declared.Found.TheVariants.{At, Unsound}
 use Rattle.uartboot_record.specs.Record.{written, decoded_of}
 use Rattle.uartboot.specs.Session.{refusal_of, read_of, uartboot, given_back}
 
@@ -43,15 +42,15 @@ module _ (session : Record) (input reply : List ℕ) (m : Memories) (r : Report)
   bad-length number e h q = refused-length uartboot session m input reply r number e h q
 
   module _ (fits : refusal_of (length m.ram) (length m.flash) (length m.work) ≡ 0) where
-    pub bad-record : decoded_of (length m.ram) (length m.work) session ≡ Unsound → r ≡ refused_report bad_record session →
+    pub bad-record : decoded_of (length m.ram) (length m.work) session ≡ None → r ≡ refused_report bad_record session →
         given_back r reply m ≡ result_of uartboot session m input reply
-    bad-record e q = refused-record uartboot session m input reply r fits (ap (λ (d : Found). read_of d session.reason m) e) q
+    bad-record e q = refused-record uartboot session m input reply r fits (ap (λ (d : Option Step). read_of d session.reason m) e) q
 
-    pub good : (s : Step) → decoded_of (length m.ram) (length m.work) session ≡ At s →
+    pub good : (s : Step) → decoded_of (length m.ram) (length m.work) session ≡ Some s →
         (taken sent stands : ℕ) (last : Step) (reason : ℕ) (reply' : List ℕ) (m' : Memories) →
         Acted device (state s session.reason m) input reply taken sent stands (state last reason m') reply' →
         r ≡ record { number = 0; standing = stands; taken = taken; sent = sent; session = written last reason } →
         given_back r reply' m' ≡ result_of uartboot session m input reply
     good s e taken sent stands last reason reply' m' a q =
-        accepted-call uartboot session m input reply r fits (state s session.reason m) (ap (λ (d : Found). read_of d session.reason m) e)
+        accepted-call uartboot session m input reply r fits (state s session.reason m) (ap (λ (d : Option Step). read_of d session.reason m) e)
         taken sent stands (state last reason m') reply' a q

@@ -1,6 +1,7 @@
 -- What every action leaves of a session's history: when code starts, what becomes of RAM and flash, and that an accepted payload still
 -- passes its checks.
 -- Assumes nothing.
+use Rattle.std.specs.Prelude.{Option, Some, None}
 use Prim.Native.Nat.{ℕ, ◌+◌}
 use mathlib.Core.Path.{◌≡◌, refl, sym, ◌∙◌}
 use mathlib.Core.Bool.{Bool, true, false, cond, not, ◌&&◌, and-true, and-false}
@@ -14,8 +15,6 @@ use Rattle.machine.specs.Machine.{is_running}
 use Rattle.machine.specs.Does.{Does, takes, sends, runs, need_of}
 use Rattle.machine.specs.Acknowledged.{took_byte}
 use Rattle.opcodes.specs.declared.Opcode.{Opcode}
-use Rattle.opcodes.specs.declared.Lookup.{Lookup}
-use Rattle.opcodes.specs.declared.Lookup.TheVariants.{Known, Unknown}
 use Rattle.opcodes.specs.Opcode.{opcode_of, has_length, is_run}
 use Rattle.command.specs.Payload.{command_of}
 use Rattle.opcodes.proofs.Opcodes.{bare-never-run}
@@ -126,9 +125,9 @@ module _ (reason : ℕ) (m : Memories) where
   header-left (TakeLow opcode) = λ b. record { starts = refl; goes_on = quiet (refl, refl) (λ z. refl); checks = tt }
   header-left (TakeHigh opcode low) = λ b. go (opcode_of opcode) b (paired low b)
     where
-      go : (known : Lookup) (b n : ℕ) → Left (here (Header (TakeHigh opcode low))) (b ∷ []) (headed reason m known n)
-      go Unknown b n = record { starts = refl; goes_on = quiet (refl, refl) (λ z. refl); checks = tt }
-      go (Known known) b n =
+      go : (known : Option Opcode) (b n : ℕ) → Left (here (Header (TakeHigh opcode low))) (b ∷ []) (headed reason m known n)
+      go None b n = record { starts = refl; goes_on = quiet (refl, refl) (λ z. refl); checks = tt }
+      go (Some known) b n =
           in-cond (Left (here (Header (TakeHigh opcode low))) (b ∷ [])) (not (has_length known n)) _ _
           (λ e. record { starts = refl; goes_on = quiet (refl, refl) (λ z. refl); checks = tt }) (λ e.
           in-cond (Left (here (Header (TakeHigh opcode low))) (b ∷ [])) (ltb _ n) _ _

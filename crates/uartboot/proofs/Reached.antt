@@ -1,5 +1,6 @@
 -- Every record that calls can reach is accepted.
 -- Assumes nothing.
+use Rattle.std.specs.Prelude.{Option, Some, None}
 use native.Mathlib.Omega.{arith}
 use mathlib.Core.Path.{◌≡◌, refl, sym, subst, ◌∙◌}
 use lib.ListN.{length}
@@ -14,8 +15,6 @@ use Rattle.uartboot_flow.specs.State.{State, state}
 use Rattle.uartboot_flow.specs.Fresh.{fresh_record, fresh}
 use Rattle.uartboot_flow.proofs.Laws.{same-lengths, held}
 use Rattle.uartboot_flow.proofs.Sounds.{Held}
-use Rattle.uartboot_record.specs.declared.Found.{Found}
-use Rattle.uartboot_record.specs.declared.Found.TheVariants as found
 use Rattle.uartboot_record.specs.Record.{written, decoded_of}
 use Rattle.uartboot_record.proofs.Records.{decoded-sound, reads_back}
 use Rattle.uartboot.specs.Session.{uartboot}
@@ -29,12 +28,12 @@ starts m = refl
 read_held : (r : Record) (m : Memories) (s : State) → uartboot.refusal m ≡ 0 → uartboot.read r m ≡ sound s → Held m s
 read_held r m s f e = go (decoded_of (length m.ram) (length m.work) r) refl
   where
-    go : (d : Found) → decoded_of (length m.ram) (length m.work) r ≡ d → Held m s
-    go (found.At step) q =
+    go : (d : Option Step) → decoded_of (length m.ram) (length m.work) r ≡ d → Held m s
+    go (Some step) q =
         let is : state step r.reason m ≡ s = sound-same (state step r.reason m) s (rw q at e) in
         let sound-step = decoded-sound (length m.ram) (length m.work) r step q in
         subst (Held m) is (record { ready = record { fitting = fitting _ _ _ f; step_sound = sound-step }; same = same-lengths m })
-    go found.Unsound q = absurd (never-sound s (rw q at e))
+    go None q = absurd (never-sound s (rw q at e))
 
 -- a state's record is read with any memories of these lengths
 held-read : (m m' : Memories) (s : State) → Held m s → SameLengths m' m → Readable uartboot (uartboot.write s) m'

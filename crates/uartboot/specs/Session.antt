@@ -1,14 +1,12 @@
 -- The session: a call on a record, input, reply and the memories. It is refused with 1, 2, 3 or 4 (rules, 2.1).
 -- Assumes nothing.
-use Rattle.std.specs.Prelude.{ℕ, cond, not, List, length}
+use Rattle.std.specs.Prelude.{ℕ, cond, not, List, length, Option, Some, None}
 use Rattle.wire.specs.Length.{is_work_length, bad_work, is_ram_length, bad_ram, is_flash_length, bad_flash}
 use Rattle.machine.specs.Session.{Read, sound, unsound, Session, Result}
 use Rattle.machine.specs.declared.Report.{Report}
 use Rattle.memory.specs.Memories.{Memories}
 use Rattle.uartboot_flow.specs.State.{State, state}
 use Rattle.uartboot_flow.specs.Device.{device}
-use Rattle.uartboot_record.specs.declared.Found.{Found}
-use Rattle.uartboot_record.specs.declared.Found.TheVariants.{At, Unsound}
 use Rattle.uartboot_record.specs.Record.{written, decoded_of}
 
 -- lengths are tested in this order
@@ -19,9 +17,9 @@ refusal_of ram flash work =
     (cond (not (is_flash_length flash)) bad_flash
     0))
 
-abbrev pub read_of : Found → (reason : ℕ) → Memories → Read State
-read_of (At step) reason m = sound (state step reason m)
-read_of Unsound reason m = unsound
+abbrev pub read_of : Option Step → (reason : ℕ) → Memories → Read State
+read_of (Some step) reason m = sound (state step reason m)
+read_of None reason m = unsound
 
 abbrev pub uartboot : Session ℕ Memories State
 uartboot =

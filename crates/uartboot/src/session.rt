@@ -11,7 +11,7 @@ ghost use Rattle.uartboot.specs.Session.{refusal_of, uartboot, given_back};
 use machine::{BAD_RECORD, Record, Report, advance, refused};
 use uartboot_flow::ask::{Ask, ask_of};
 use uartboot_flow::step::Step;
-use uartboot_record::{Found, decode, encode};
+use uartboot_record::{decode, encode};
 use uartboot_turn::{send, take};
 use wire::length::{BAD_FLASH, BAD_RAM, BAD_WORK, is_flash_length, is_ram_length, is_work_length};
 
@@ -113,7 +113,7 @@ pub fn call(
         return refused(number, session);
     }
     match decode(ram.len(), work.len(), session) {
-        Found::At(step) => {
+        Some(step) => {
             let end = act(step, session.reason, input, reply, ram, flash, work);
             let reached = end.step;
             Report {
@@ -124,6 +124,6 @@ pub fn call(
                 session: encode(reached, end.reason),
             }
         }
-        Found::Unsound => refused(BAD_RECORD, session),
+        None => refused(BAD_RECORD, session),
     }
 }

@@ -1,5 +1,6 @@
 -- Every action leaves a sound state, and memories of the same lengths.
 -- Assumes nothing.
+use Rattle.std.specs.Prelude.{Option, Some, None}
 use Prim.Native.Nat.{ℕ, ◌+◌, ◌<◌}
 use native.Mathlib.Omega.{arith}
 use mathlib.Core.Path.{◌≡◌, ◌∙◌}
@@ -14,8 +15,6 @@ use Rattle.wire.proofs.Tests.{in-cond}
 use Rattle.machine.specs.Does.{Does}
 use Rattle.machine.proofs.Doing.{Leaves}
 use Rattle.opcodes.specs.declared.Opcode.{Opcode}
-use Rattle.opcodes.specs.declared.Lookup.{Lookup}
-use Rattle.opcodes.specs.declared.Lookup.TheVariants.{Known, Unknown}
 use Rattle.opcodes.specs.Opcode.{unknown_opcode, bad_length, opcode_of, has_length}
 use Rattle.command.specs.Payload.{Carried, command_of}
 use Rattle.command_execution.specs.declared.Ending.{Ending}
@@ -76,9 +75,9 @@ module _ (m₀ : Memories) where
     on : (step : Step) → SoundStep (length m.ram) (length m.work) step → Held m₀ (goes reason m step)
     on step h = at step reason m fit same h
 
-    headed-held : (known : Lookup) (n : ℕ) → Held m₀ (headed reason m known n)
-    headed-held Unknown n = refuses-held unknown_opcode
-    headed-held (Known opcode) n =
+    headed-held : (known : Option Opcode) (n : ℕ) → Held m₀ (headed reason m known n)
+    headed-held None n = refuses-held unknown_opcode
+    headed-held (Some opcode) n =
         in-cond (Held m₀) (not (has_length opcode n)) _ _ (λ e. refuses-held bad_length) (λ e.
         in-cond (Held m₀) (ltb (length m.work) n) _ _ (λ f. refuses-held long_payload) (λ f.
         on (Command opcode n SendAck) (record { has_length = not-false _ e; in_work = ltb-false _ _ f }, tt)))

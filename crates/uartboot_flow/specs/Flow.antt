@@ -1,15 +1,13 @@
 -- uartboot's flow, steps 1 to 5 (rules, 6.1 to 6.5). Each line says what a step does: it takes a byte, and the byte says where the flow
 -- goes, or it sends a byte and goes on. The reasons of an opcode, of a command and of its execution are in the crates of these.
 -- Assumes nothing.
-use Rattle.std.specs.Prelude.{ℕ, ◌+◌, cond, not, List, eqb, ltb, length, take, get_or, set}
+use Rattle.std.specs.Prelude.{ℕ, ◌+◌, cond, not, List, eqb, ltb, length, take, get_or, set, Option, Some, None}
 use Rattle.wire.specs.Line.{soh, ack, nak}
 use Rattle.numbers.specs.Number.{paired, low_byte, high_byte}
 use Rattle.crc.specs.Rule.{rule16}
 use Rattle.crc.specs.Crc.{crc_of}
 use Rattle.machine.specs.Does.{Does, takes, sends, runs, took_of}
 use Rattle.opcodes.specs.declared.Opcode.{Opcode}
-use Rattle.opcodes.specs.declared.Lookup.{Lookup}
-use Rattle.opcodes.specs.declared.Lookup.TheVariants.{Known, Unknown}
 use Rattle.opcodes.specs.Opcode.{unknown_opcode, bad_length, opcode_of, has_length}
 use Rattle.command.specs.Payload.{command_of}
 use Rattle.command_execution.specs.declared.Ending.{Ending}
@@ -78,9 +76,9 @@ module _ (reason : ℕ) (m : Memories) where
   abbrev pub greets : (place : ℕ) → Does ℕ State
   greets place = sends (greeting place) (goes (cond (ltb (place + 1) greeting_length) (Greeting (place + 1)) (Header TakeSoh)))
 
-  abbrev pub headed : Lookup → (size : ℕ) → State
-  headed Unknown size = refuses unknown_opcode
-  headed (Known opcode) size =
+  abbrev pub headed : Option Opcode → (size : ℕ) → State
+  headed None size = refuses unknown_opcode
+  headed (Some opcode) size =
       cond (not (has_length opcode size)) (refuses bad_length)
       (cond (ltb (length m.work) size) (refuses long_payload)
       (goes (Command opcode size SendAck)))

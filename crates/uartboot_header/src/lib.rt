@@ -9,7 +9,7 @@ ghost use Rattle.uartboot_flow.specs.State.{state};
 ghost use Rattle.uartboot_flow.specs.Gives.{Gives};
 
 use numbers::pair;
-use opcodes::{BAD_LENGTH, Lookup, UNKNOWN_OPCODE, has_length, opcode_of};
+use opcodes::{BAD_LENGTH, UNKNOWN_OPCODE, has_length, opcode_of};
 use uartboot_flow::reason::LONG_PAYLOAD;
 use uartboot_flow::step::{CommandStep, HeaderStep, Progress, Step, to};
 use wire::line::SOH;
@@ -19,7 +19,7 @@ fn head(opcode: u32, size: usize, reason: u32, work: &[u8]) -> Progress
     requires { is_work_length (length work.now) ≡ true }
     ensures { Gives work.now result (λ m. headed reason m (opcode_of opcode) size) }
 {
-    let Lookup::Known(known) = opcode_of(opcode) else {
+    let Some(known) = opcode_of(opcode) else {
         return to(Step::Refusal, UNKNOWN_OPCODE);
     };
     if !has_length(known, size) {

@@ -1,5 +1,6 @@
 -- A record that is read stands for a sound step, and a sound step's record is read as that step.
 -- Assumes nothing.
+use Rattle.std.specs.Prelude.{Option, Some, None}
 use Prim.Native.Nat.{ℕ, ◌<◌}
 use native.Mathlib.Omega.{arith}
 use mathlib.Core.Path.{◌≡◌, refl, subst}
@@ -11,8 +12,6 @@ use Rattle.wire.specs.Unit.{is_in_ram}
 use Rattle.machine.specs.declared.Record.{Record}
 use Rattle.opcodes.specs.declared.Opcode.{Opcode}
 use Rattle.opcodes.specs.declared.Opcode.TheVariants.{Run}
-use Rattle.opcodes.specs.declared.Lookup.{Lookup}
-use Rattle.opcodes.specs.declared.Lookup.TheVariants.{Known, Unknown}
 use Rattle.opcodes.specs.Opcode.{opcode_number, opcode_of, has_length, has_answer}
 use Rattle.command.specs.Payload.{Carried}
 use Rattle.opcodes.proofs.Opcodes.{opcode-back}
@@ -28,14 +27,12 @@ use Rattle.uartboot_flow.specs.Flow.{greeting_length}
 use Rattle.uartboot_flow.specs.Fresh.{kind_number}
 use Rattle.uartboot_flow.specs.Sound.{SoundStep, SoundCommand, SoundAnswer}
 use Rattle.uartboot_record.specs.declared.Numbers.{Numbers}
-use Rattle.uartboot_record.specs.declared.Found.{Found}
-use Rattle.uartboot_record.specs.declared.Found.TheVariants.{At, Unsound}
 use Rattle.uartboot_record.specs.Record.{fields, command_numbers, answer_numbers, numbers_of, written, places_of, plain_step, payload_step, command_in, answer_step, answer_in, running_in, with_opcode, phase_in, step_in, decoded_of}
 
 module _ (ram work : ℕ) where
-  abbrev InFound : Found → Type 0
-  InFound (At step) = SoundStep ram work step
-  InFound Unsound = Unit {0}
+  abbrev InFound : Option Step → Type 0
+  InFound (Some step) = SoundStep ram work step
+  InFound None = Unit {0}
 
   -- the place is one of its phase's
   abbrev Placed : (phase size place : ℕ) → Type 0
@@ -88,9 +85,9 @@ module _ (ram work : ℕ) where
       in-cond InFound (not (eqb opcode (opcode_number Run))) _ _ (λ e. tt) (λ e.
       in-cond InFound (is_in_ram (record { 0 = address }) ram) _ _ (λ inside. inside) (λ e. tt))
 
-  opcode-in : (found : Lookup) (n : Numbers) → Placed n.phase n.length n.place → InFound (with_opcode work found n)
-  opcode-in Unknown n p = tt
-  opcode-in (Known opcode) n p = in-cond InFound (ltb n.phase 11) _ _ (λ e. command-in opcode n p) (λ e. answer-in opcode n p)
+  opcode-in : (found : Option Opcode) (n : Numbers) → Placed n.phase n.length n.place → InFound (with_opcode work found n)
+  opcode-in None n p = tt
+  opcode-in (Some opcode) n p = in-cond InFound (ltb n.phase 11) _ _ (λ e. command-in opcode n p) (λ e. answer-in opcode n p)
 
   phase-in : (n : Numbers) → Placed n.phase n.length n.place → InFound (phase_in ram work n)
   unfolding phase_in
@@ -112,7 +109,7 @@ module _ (ram work : ℕ) where
       (λ e. step-in (fields r.phase r.opcode r.length r.place r.held))
 
   -- a record that is read stands for a sound step
-  pub decoded-sound : (r : Record) (s : Step) → decoded_of ram work r ≡ At s → SoundStep ram work s
+  pub decoded-sound : (r : Record) (s : Step) → decoded_of ram work r ≡ Some s → SoundStep ram work s
   decoded-sound r s e = subst InFound e (record-in r)
 
   nonzero : (n : ℕ) → 0 < n → eqb n 0 ≡ false
@@ -120,19 +117,19 @@ module _ (ram work : ℕ) where
 
   -- after the tests on a command, and on an answer
   payload-back : (opcode : Opcode) (k n p : ℕ) → eqb k 5 ≡ false → ltb k 11 ≡ true → Carried opcode n work → 0 < n
-      → with_opcode work (opcode_of (opcode_number opcode)) (fields k (opcode_number opcode) n p 0) ≡ At (Command opcode n (payload_step k p))
+      → with_opcode work (opcode_of (opcode_number opcode)) (fields k (opcode_number opcode) n p 0) ≡ Some (Command opcode n (payload_step k p))
   payload-back opcode k n p behind before h some =
       rw (opcode-back opcode, before, h.has_length, le-ltb work n h.in_work, behind, nonzero n some)
 
   answering-back : (opcode : Opcode) (k n p l : ℕ) → ltb k 11 ≡ false → Answering opcode n work
       → with_opcode work (opcode_of (opcode_number opcode)) (fields k (opcode_number opcode) n p l)
-      ≡ At (Answer opcode n (answer_step k p l))
+      ≡ Some (Answer opcode n (answer_step k p l))
   answering-back opcode k n p l behind h =
       rw (opcode-back opcode, behind, h.has_answer, nonzero n h.some, le-ltb work n h.in_work)
 
   -- every sound step is read back from its numbers
   command-back : (opcode : Opcode) (n : ℕ) (step : CommandStep) → Carried opcode n work → SoundCommand n step
-      → step_in ram work (command_numbers (opcode_number opcode) n step) ≡ At (Command opcode n step)
+      → step_in ram work (command_numbers (opcode_number opcode) n step) ≡ Some (Command opcode n step)
   unfolding step_in phase_in
   command-back opcode n SendAck h s = rw (opcode-back opcode, h.has_length, le-ltb work n h.in_work) refl
   command-back opcode n (TakePayload p) h s = rw (lt-ltb p n s) (payload-back opcode 6 n p refl refl h (omega (arith, s)))
@@ -142,7 +139,7 @@ module _ (ram work : ℕ) where
   command-back opcode n TakeGo h s = payload-back opcode 10 n 0 refl refl h s
 
   answer_back : (opcode : Opcode) (n : ℕ) (step : AnswerStep) → Answering opcode n work → SoundAnswer n step
-      → step_in ram work (answer_numbers (opcode_number opcode) n step) ≡ At (Answer opcode n step)
+      → step_in ram work (answer_numbers (opcode_number opcode) n step) ≡ Some (Answer opcode n step)
   unfolding step_in phase_in
   answer_back opcode n a.SendLengthLow h s = answering-back opcode 11 n 0 0 refl h
   answer_back opcode n a.SendLengthHigh h s = answering-back opcode 12 n 0 0 refl h
@@ -152,7 +149,7 @@ module _ (ram work : ℕ) where
   answer_back opcode n (a.TakeCrcHigh low) h s = answering-back opcode 16 n 0 low refl h
   answer_back opcode n a.SendAck h s = answering-back opcode 17 n 0 0 refl h
 
-  step_back : (s : Step) → SoundStep ram work s → step_in ram work (numbers_of s) ≡ At s
+  step_back : (s : Step) → SoundStep ram work s → step_in ram work (numbers_of s) ≡ Some s
   unfolding step_in phase_in
   step_back (Greeting p) h = rw (lt-ltb p greeting_length h) refl
   step_back (Header TakeSoh) h = refl
@@ -165,6 +162,6 @@ module _ (ram work : ℕ) where
   step_back (Running address) h = rw h refl
 
   -- and from its record
-  pub reads_back : (s : Step) (reason : ℕ) → SoundStep ram work s → decoded_of ram work (written s reason) ≡ At s
+  pub reads_back : (s : Step) (reason : ℕ) → SoundStep ram work s → decoded_of ram work (written s reason) ≡ Some s
   unfolding decoded_of written
   reads_back s reason h = step_back s h

@@ -1,13 +1,11 @@
 -- The session's record, and which ones are unsound (rules, 6.10). Numbers that a phase does not use are ignored when a record comes in,
 -- but for the place. They are 0 in every record that an accepted call hands out.
 -- Assumes nothing.
-use Rattle.std.specs.Prelude.{ℕ, cond, not, eqb, ltb}
+use Rattle.std.specs.Prelude.{ℕ, cond, not, eqb, ltb, Option, Some, None}
 use Rattle.wire.specs.Unit.{is_in_ram}
 use Rattle.machine.specs.declared.Record.{Record}
 use Rattle.opcodes.specs.declared.Opcode.{Opcode}
 use Rattle.opcodes.specs.declared.Opcode.TheVariants.{Run}
-use Rattle.opcodes.specs.declared.Lookup.{Lookup}
-use Rattle.opcodes.specs.declared.Lookup.TheVariants.{Known, Unknown}
 use Rattle.opcodes.specs.Opcode.{opcode_number, opcode_of, has_length, has_answer}
 use Rattle.uartboot_flow.specs.declared.step.Step.{Step}
 use Rattle.uartboot_flow.specs.declared.step.Step.TheVariants.{Greeting, Header, Command, Answer, Refusal, Running}
@@ -20,8 +18,6 @@ use Rattle.uartboot_flow.specs.declared.step.AnswerStep.TheVariants as a
 use Rattle.uartboot_flow.specs.Flow.{greeting_length}
 use Rattle.uartboot_flow.specs.Fresh.{kind_number}
 use Rattle.uartboot_record.specs.declared.Numbers.{Numbers}
-use Rattle.uartboot_record.specs.declared.Found.{Found}
-use Rattle.uartboot_record.specs.declared.Found.TheVariants.{At, Unsound}
 
 abbrev pub fields : (phase opcode size place held : ℕ) → Numbers
 fields phase opcode size place held = record { phase = phase; opcode = opcode; length = size; place = place; held = held }
@@ -99,13 +95,13 @@ payload_step phase place =
     TakeGo)))
 
 -- phases 5 to 10, with a work buffer of `work` bytes; a command without payload has only phase 5
-abbrev pub command_in : (work : ℕ) → Opcode → Numbers → Found
+abbrev pub command_in : (work : ℕ) → Opcode → Numbers → Option Step
 command_in work opcode n =
-    cond (not (has_length opcode n.length)) Unsound
-    (cond (ltb work n.length) Unsound
-    (cond (eqb n.phase 5) (At (Command opcode n.length SendAck))
-    (cond (eqb n.length 0) Unsound
-    (At (Command opcode n.length (payload_step n.phase n.place))))))
+    cond (not (has_length opcode n.length)) None
+    (cond (ltb work n.length) None
+    (cond (eqb n.phase 5) (Some (Command opcode n.length SendAck))
+    (cond (eqb n.length 0) None
+    (Some (Command opcode n.length (payload_step n.phase n.place))))))
 
 -- phases 11 to 17
 abbrev pub answer_step : (phase place held : ℕ) → AnswerStep
@@ -118,38 +114,38 @@ answer_step phase place held =
     (cond (eqb phase 16) (a.TakeCrcHigh held)
     a.SendAck)))))
 
-abbrev pub answer_in : (work : ℕ) → Opcode → Numbers → Found
+abbrev pub answer_in : (work : ℕ) → Opcode → Numbers → Option Step
 answer_in work opcode n =
-    cond (not (has_answer opcode)) Unsound
-    (cond (eqb n.length 0) Unsound
-    (cond (ltb work n.length) Unsound
-    (At (Answer opcode n.length (answer_step n.phase n.place n.held)))))
+    cond (not (has_answer opcode)) None
+    (cond (eqb n.length 0) None
+    (cond (ltb work n.length) None
+    (Some (Answer opcode n.length (answer_step n.phase n.place n.held)))))
 
 -- code runs in RAM, started by the command Run
-abbrev pub running_in : (ram opcode address : ℕ) → Found
+abbrev pub running_in : (ram opcode address : ℕ) → Option Step
 running_in ram opcode address =
-    cond (not (eqb opcode (opcode_number Run))) Unsound
-    (cond (is_in_ram (record { 0 = address }) ram) (At (Running (record { 0 = address }))) Unsound)
+    cond (not (eqb opcode (opcode_number Run))) None
+    (cond (is_in_ram (record { 0 = address }) ram) (Some (Running (record { 0 = address }))) None)
 
 -- a command's or an answer's opcode must be known
-abbrev pub with_opcode : (work : ℕ) → Lookup → Numbers → Found
-with_opcode work Unknown n = Unsound
-with_opcode work (Known opcode) n = cond (ltb n.phase 11) (command_in work opcode n) (answer_in work opcode n)
+abbrev pub with_opcode : (work : ℕ) → Option Opcode → Numbers → Option Step
+with_opcode work None n = None
+with_opcode work (Some opcode) n = cond (ltb n.phase 11) (command_in work opcode n) (answer_in work opcode n)
 
-unfoldable pub phase_in : (ram work : ℕ) → Numbers → Found
+unfoldable pub phase_in : (ram work : ℕ) → Numbers → Option Step
 phase_in ram work n =
-    cond (ltb n.phase 5) (At (plain_step n))
-    (cond (eqb n.phase 18) (At Refusal)
+    cond (ltb n.phase 5) (Some (plain_step n))
+    (cond (eqb n.phase 18) (Some Refusal)
     (cond (eqb n.phase 19) (running_in ram n.opcode n.held)
-    (cond (ltb 17 n.phase) Unsound
+    (cond (ltb 17 n.phase) None
     (with_opcode work (opcode_of n.opcode) n))))
 
 -- a place beyond what its phase takes or sends is unsound
-unfoldable pub step_in : (ram work : ℕ) → Numbers → Found
-step_in ram work n = cond (ltb n.place (places_of n.phase n.length)) (phase_in ram work n) Unsound
+unfoldable pub step_in : (ram work : ℕ) → Numbers → Option Step
+step_in ram work n = cond (ltb n.place (places_of n.phase n.length)) (phase_in ram work n) None
 
 -- what a record stands for, with memories of these lengths
-unfoldable pub decoded_of : (ram work : ℕ) → Record → Found
+unfoldable pub decoded_of : (ram work : ℕ) → Record → Option Step
 decoded_of ram work r =
-    cond (not (eqb r.kind kind_number)) Unsound
+    cond (not (eqb r.kind kind_number)) None
     (step_in ram work (fields r.phase r.opcode r.length r.place r.held))

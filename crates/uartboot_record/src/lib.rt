@@ -5,7 +5,7 @@ ghost use Rattle.std.specs.Prelude.{◌≡◌};
 ghost use Rattle.uartboot_record.specs.Record.{fields, header_numbers, command_numbers, answer_numbers, numbers_of, written, places_of, plain_step, payload_step, command_in, answer_step, answer_in, running_in, phase_in, decoded_of};
 
 use machine::Record;
-use opcodes::{Lookup, Opcode, has_answer, has_length, number_of, opcode_of};
+use opcodes::{Opcode, has_answer, has_length, number_of, opcode_of};
 use uartboot_flow::kind::Uartboot;
 use uartboot_flow::step::{AnswerStep, CommandStep, HeaderStep, Step};
 use wire::unit::RamAddress;
@@ -18,13 +18,6 @@ pub struct Numbers {
     pub length: u32,
     pub place: u32,
     pub held: u32,
-}
-
-// The step that numbers stand for, or that there is none.
-#[derive(Clone, Copy)]
-pub enum Found {
-    At(Step),
-    Unsound,
 }
 
 fn fields(phase: u32, opcode: u32, size: u32, place: u32, held: u32) -> Numbers
@@ -147,23 +140,23 @@ fn payload_step(phase: u32, place: u32) -> CommandStep
 }
 
 // A command: its opcode has the length, the length is within the work buffer, and without payload there is only the header's 06.
-fn command_in(work: usize, opcode: Opcode, n: Numbers) -> Found
+fn command_in(work: usize, opcode: Opcode, n: Numbers) -> Option<Step>
     ensures { result ≡ command_in work opcode n }
 {
     let size = n.length;
     if !has_length(opcode, size as usize) {
-        return Found::Unsound;
+        return None;
     }
     if work < (size as usize) {
-        return Found::Unsound;
+        return None;
     }
     if n.phase == 5 {
-        return Found::At(Step::Command(opcode, size, CommandStep::SendAck));
+        return Some(Step::Command(opcode, size, CommandStep::SendAck));
     }
     if size == 0 {
-        return Found::Unsound;
+        return None;
     }
-    Found::At(Step::Command(opcode, size, payload_step(n.phase, n.place)))
+    Some(Step::Command(opcode, size, payload_step(n.phase, n.place)))
 }
 
 // The steps of an answer; any other phase is the last of them.
@@ -182,54 +175,54 @@ fn answer_step(phase: u32, place: u32, held: u32) -> AnswerStep
 }
 
 // An answer: its opcode has one, of 1 byte or more, within the work buffer.
-fn answer_in(work: usize, opcode: Opcode, n: Numbers) -> Found
+fn answer_in(work: usize, opcode: Opcode, n: Numbers) -> Option<Step>
     ensures { result ≡ answer_in work opcode n }
 {
     if !has_answer(opcode) {
-        return Found::Unsound;
+        return None;
     }
     if n.length == 0 {
-        return Found::Unsound;
+        return None;
     }
     if work < (n.length as usize) {
-        return Found::Unsound;
+        return None;
     }
-    Found::At(Step::Answer(opcode, n.length, answer_step(n.phase, n.place, n.held)))
+    Some(Step::Answer(opcode, n.length, answer_step(n.phase, n.place, n.held)))
 }
 
 // Code runs at an address in RAM, started by the command Run.
-fn running_in(ram: usize, opcode: u32, address: u32) -> Found
+fn running_in(ram: usize, opcode: u32, address: u32) -> Option<Step>
     ensures { result ≡ running_in ram opcode address }
 {
     if opcode != number_of(Opcode::Run) {
-        return Found::Unsound;
+        return None;
     }
     if RamAddress(address).is_in(ram) {
-        Found::At(Step::Running(RamAddress(address)))
+        Some(Step::Running(RamAddress(address)))
     } else {
-        Found::Unsound
+        None
     }
 }
 
 // The step of a phase, whatever the place.
 #[tactic(auto, unfolding(crate::specs::Record::phase_in))]
-fn phase_in(ram: usize, work: usize, n: Numbers) -> Found
+fn phase_in(ram: usize, work: usize, n: Numbers) -> Option<Step>
     ensures { result ≡ phase_in ram work n }
 {
     if n.phase < 5 {
-        return Found::At(plain_step(n));
+        return Some(plain_step(n));
     }
     if n.phase == 18 {
-        return Found::At(Step::Refusal);
+        return Some(Step::Refusal);
     }
     if n.phase == 19 {
         return running_in(ram, n.opcode, n.held);
     }
     if 17 < n.phase {
-        return Found::Unsound;
+        return None;
     }
-    let Lookup::Known(opcode) = opcode_of(n.opcode) else {
-        return Found::Unsound;
+    let Some(opcode) = opcode_of(n.opcode) else {
+        return None;
     };
     if n.phase < 11 {
         return command_in(work, opcode, n);
@@ -239,11 +232,11 @@ fn phase_in(ram: usize, work: usize, n: Numbers) -> Found
 
 // The step that a record stands for, with memories of these lengths.
 #[tactic(auto, unfolding(crate::specs::Record::decoded_of, crate::specs::Record::step_in))]
-pub fn decode(ram: usize, work: usize, session: Record) -> Found
+pub fn decode(ram: usize, work: usize, session: Record) -> Option<Step>
     ensures { result ≡ decoded_of ram work session }
 {
     if session.kind != Uartboot::KIND {
-        return Found::Unsound;
+        return None;
     }
     let n = fields(
         session.phase,
@@ -255,6 +248,6 @@ pub fn decode(ram: usize, work: usize, session: Record) -> Found
     if n.place < places_of(n.phase, n.length) {
         phase_in(ram, work, n)
     } else {
-        Found::Unsound
+        None
     }
 }

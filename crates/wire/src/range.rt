@@ -2,29 +2,20 @@
 ghost use Rattle.std.specs.Prelude.{◌≡◌};
 ghost use Rattle.wire.specs.Range.{place_in};
 
-// Where a range begins in its memory.
-#[derive(Clone, Copy)]
-pub enum Place {
-    // The range lies wholly in the memory; the index there at which it begins.
-    Inside(usize),
-    // It does not.
-    Outside,
-}
-
-// Judges `count` bytes from the address `start` on, in a memory of `size` bytes whose first address is `base`. Only differences
-// are made, so nothing can wrap.
-pub fn place_in(start: usize, count: usize, base: usize, size: usize) -> Place
+// Where `count` bytes from the address `start` on begin in a memory of `size` bytes whose first address is `base`, if they lie wholly in
+// it. Only differences are made, so nothing can wrap.
+pub fn place_in(start: usize, count: usize, base: usize, size: usize) -> Option<usize>
     ensures { result ≡ place_in start count base size }
 {
     if start < base {
-        return Place::Outside;
+        return None;
     }
     let place = start - base;
     if size < place {
-        return Place::Outside;
+        return None;
     }
     if size - place < count {
-        return Place::Outside;
+        return None;
     }
-    Place::Inside(place)
+    Some(place)
 }

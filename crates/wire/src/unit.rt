@@ -2,7 +2,7 @@
 ghost use Rattle.std.specs.Prelude.{◌≡◌};
 ghost use Rattle.wire.specs.Unit.{ram_place, is_in_ram, flash_place};
 
-use crate::range::{Place, place_in};
+use crate::range::place_in;
 
 // The address of RAM's first byte.
 pub const RAM_BASE: u32 = 0x07FC_0000;
@@ -17,7 +17,7 @@ pub struct FlashOffset(pub u32);
 
 impl RamAddress {
     // Where `count` bytes from this address on lie in a RAM of `ram` bytes.
-    pub fn place(self, count: usize, ram: usize) -> Place
+    pub fn place(self, count: usize, ram: usize) -> Option<usize>
         ensures { result ≡ ram_place self count ram }
     {
         place_in(self.0 as usize, count, RAM_BASE as usize, ram)
@@ -28,15 +28,15 @@ impl RamAddress {
         ensures { result ≡ is_in_ram self ram }
     {
         match self.place(1, ram) {
-            Place::Inside(_) => true,
-            Place::Outside => false,
+            Some(_) => true,
+            None => false,
         }
     }
 }
 
 impl FlashOffset {
     // Where `count` bytes from this offset on lie in a flash of `flash` bytes.
-    pub fn place(self, count: usize, flash: usize) -> Place
+    pub fn place(self, count: usize, flash: usize) -> Option<usize>
         ensures { result ≡ flash_place self count flash }
     {
         place_in(self.0 as usize, count, 0, flash)

@@ -18,27 +18,27 @@ returns-in_default c =
 
 pub first_broken-requires : goal.first_broken-requires
 first_broken-requires c =
-    let inside : c.args.offset + header_length ≤ length c.args.memory.now = lies-fits _ _ _ (lies-inside c.args.offset header_length 0 (length c.args.memory.now) c.in-Inside.field-0 (sym c.place_in.ensures ∙ c.in-Inside.is)) in
+    let inside : c.args.offset + header_length ≤ length c.args.memory.now = lies-fits _ _ _ (lies-inside c.args.offset header_length 0 (length c.args.memory.now) c.in-Some.field-0 (sym c.place_in.ensures ∙ c.in-Some.is)) in
     inside
 
 pub overflow_add-result : goal.overflow_add-result
 overflow_add-result c =
-    let inside : c.args.offset + header_length ≤ length c.args.memory.now = lies-fits _ _ _ (lies-inside c.args.offset header_length 0 (length c.args.memory.now) c.in-Inside.field-0 (sym c.place_in.ensures ∙ c.in-Inside.is)) in
+    let inside : c.args.offset + header_length ≤ length c.args.memory.now = lies-fits _ _ _ (lies-inside c.args.offset header_length 0 (length c.args.memory.now) c.in-Some.field-0 (sym c.place_in.ensures ∙ c.in-Some.is)) in
     omega (arith, inside)
 
 pub bounds-memory-offset : goal.bounds-memory-offset
 bounds-memory-offset c =
-    let inside : c.args.offset + header_length ≤ length c.args.memory.now = lies-fits _ _ _ (lies-inside c.args.offset header_length 0 (length c.args.memory.now) c.in-Inside.field-0 (sym c.place_in.ensures ∙ c.in-Inside.is)) in
+    let inside : c.args.offset + header_length ≤ length c.args.memory.now = lies-fits _ _ _ (lies-inside c.args.offset header_length 0 (length c.args.memory.now) c.in-Some.field-0 (sym c.place_in.ensures ∙ c.in-Some.is)) in
     omega (arith, inside)
 
 pub overflow_add-offset : goal.overflow_add-offset
 overflow_add-offset c =
-    let inside : c.args.offset + header_length ≤ length c.args.memory.now = lies-fits _ _ _ (lies-inside c.args.offset header_length 0 (length c.args.memory.now) c.in-Inside.field-0 (sym c.place_in.ensures ∙ c.in-Inside.is)) in
+    let inside : c.args.offset + header_length ≤ length c.args.memory.now = lies-fits _ _ _ (lies-inside c.args.offset header_length 0 (length c.args.memory.now) c.in-Some.field-0 (sym c.place_in.ensures ∙ c.in-Some.is)) in
     omega (arith, inside)
 
 pub number32_at-requires : goal.number32_at-requires
 number32_at-requires c =
-    let inside : c.args.offset + header_length ≤ length c.args.memory.now = lies-fits _ _ _ (lies-inside c.args.offset header_length 0 (length c.args.memory.now) c.in-Inside.field-0 (sym c.place_in.ensures ∙ c.in-Inside.is)) in
+    let inside : c.args.offset + header_length ≤ length c.args.memory.now = lies-fits _ _ _ (lies-inside c.args.offset header_length 0 (length c.args.memory.now) c.in-Some.field-0 (sym c.place_in.ensures ∙ c.in-Some.is)) in
     omega (arith, inside)
 
 pub returns-then-number_of-eq0 : goal.returns-then-number_of-eq0

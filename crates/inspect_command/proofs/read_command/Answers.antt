@@ -13,12 +13,12 @@ returns-in_default c = simp (sym c.opcode_of.ensures ∙ c.in_default.is) c.refu
 pub returns-then-payload-gt-LONGEST : goal.returns-then-payload-gt-LONGEST
 unfolding read_command
 returns-then-payload-gt-LONGEST c =
-    simp (sym c.opcode_of.ensures ∙ c.in-Known.is, lt-ltb _ _ c.if-payload-gt-LONGEST.true) c.refused-then-payload-gt-LONGEST.ensures
+    simp (sym c.opcode_of.ensures ∙ c.in-Some.is, lt-ltb _ _ c.if-payload-gt-LONGEST.true) c.refused-then-payload-gt-LONGEST.ensures
 
 pub returns-then-not-has_length : goal.returns-then-not-has_length
 unfolding read_command
 returns-then-not-has_length c =
-    let known = sym c.opcode_of.ensures ∙ c.in-Known.is in
+    let known = sym c.opcode_of.ensures ∙ c.in-Some.is in
     let other = sym c.has_length.ensures ∙ c.if-not-has_length.true in
     simp (known, le-ltb _ _ c.if-payload-gt-LONGEST.false, other) c.refused-then-not-has_length.ensures
 
@@ -28,6 +28,6 @@ command_of-requires c = record { has_length = sym c.has_length.ensures ∙ c.if-
 pub returns : goal.returns
 unfolding read_command
 returns c =
-    let known = sym c.opcode_of.ensures ∙ c.in-Known.is in
+    let known = sym c.opcode_of.ensures ∙ c.in-Some.is in
     let fits = sym c.has_length.ensures ∙ c.if-not-has_length.false in
     simp (known, le-ltb _ _ c.if-payload-gt-LONGEST.false, fits) (c.numbers_of.ensures ∙ rw c.command_of.ensures)

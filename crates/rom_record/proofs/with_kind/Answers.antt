@@ -2,5 +2,5 @@
 -- Assumes nothing.
 use Rattle.rom_record.proofs.with_kind.Goals as goal
 
-pub returns-in-At : goal.returns-in-At
-returns-in-At c = simp c.in-At.is
+pub returns-in-Some : goal.returns-in-Some
+returns-in-Some c = simp c.in-Some.is

@@ -19,18 +19,18 @@ returns-in_default c =
 
 pub overflow_add-result : goal.overflow_add-result
 overflow_add-result c =
-    let lies : lies_in c.args.place c.place_of-placed.result.size 0 (length c.args.file.now) ≡ true = lies-inside c.args.place c.place_of-placed.result.size 0 (length c.args.file.now) c.in-Inside.field-0 (sym c.place_in.ensures ∙ c.in-Inside.is) in
+    let lies : lies_in c.args.place c.place_of-placed.result.size 0 (length c.args.file.now) ≡ true = lies-inside c.args.place c.place_of-placed.result.size 0 (length c.args.file.now) c.in-Some.field-0 (sym c.place_in.ensures ∙ c.in-Some.is) in
     let inside : c.args.place + c.place_of-placed.result.size ≤ length c.args.file.now = lies-fits _ _ _ lies in
     omega (arith, inside)
 
 pub slice_bounds-result-end-2 : goal.slice_bounds-result-end-2
 slice_bounds-result-end-2 c =
-    let lies : lies_in c.args.place c.place_of-placed.result.size 0 (length c.args.file.now) ≡ true = lies-inside c.args.place c.place_of-placed.result.size 0 (length c.args.file.now) c.in-Inside.field-0 (sym c.place_in.ensures ∙ c.in-Inside.is) in
+    let lies : lies_in c.args.place c.place_of-placed.result.size 0 (length c.args.file.now) ≡ true = lies-inside c.args.place c.place_of-placed.result.size 0 (length c.args.file.now) c.in-Some.field-0 (sym c.place_in.ensures ∙ c.in-Some.is) in
     let inside : c.args.place + c.place_of-placed.result.size ≤ length c.args.file.now = lies-fits _ _ _ lies in
     omega (arith, inside)
 
 pub returns : goal.returns
 unfolding lies_from
 returns c =
-    let lies : lies_in c.args.place c.place_of-placed.result.size 0 (length c.args.file.now) ≡ true = lies-inside c.args.place c.place_of-placed.result.size 0 (length c.args.file.now) c.in-Inside.field-0 (sym c.place_in.ensures ∙ c.in-Inside.is) in
+    let lies : lies_in c.args.place c.place_of-placed.result.size 0 (length c.args.file.now) ≡ true = lies-inside c.args.place c.place_of-placed.result.size 0 (length c.args.file.now) c.in-Some.field-0 (sym c.place_in.ensures ∙ c.in-Some.is) in
     rw (← c.place_of-placed.ensures) (simp lies (part-taken c.args.file c.args.place c.place_of-placed.result.size))

@@ -13,13 +13,13 @@ returns-in_default c =
 
 pub returns-then-not-has_length : goal.returns-then-not-has_length
 returns-then-not-has_length c =
-    let known = sym c.opcode_of.ensures ∙ c.in-Known.is in
+    let known = sym c.opcode_of.ensures ∙ c.in-Some.is in
     let not-has = sym c.has_length.ensures ∙ c.if-not-has_length.true in
     record { is = λ ram flash. simp (c.to-then-not-has_length.ensures, known, not-has) }
 
 pub returns-then-work-size : goal.returns-then-work-size
 returns-then-work-size c =
-    let known = sym c.opcode_of.ensures ∙ c.in-Known.is in
+    let known = sym c.opcode_of.ensures ∙ c.in-Some.is in
     let has = sym c.has_length.ensures ∙ c.if-not-has_length.false in
     record { is = λ ram flash. simp (c.to-then-work-size.ensures, known, has, lt-ltb _ _ c.if-work-size.true) }
 
@@ -28,6 +28,6 @@ overflow_cast-size c = omega (arith, (work-bounds _ c.requires).1)
 
 pub returns : goal.returns
 returns c =
-    let known = sym c.opcode_of.ensures ∙ c.in-Known.is in
+    let known = sym c.opcode_of.ensures ∙ c.in-Some.is in
     let has = sym c.has_length.ensures ∙ c.if-not-has_length.false in
     record { is = λ ram flash. simp (c.to-2.ensures, known, has, le-ltb _ _ c.if-work-size.false) }

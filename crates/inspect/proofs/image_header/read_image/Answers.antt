@@ -19,12 +19,12 @@ returns-in_default c =
 
 pub first_broken-requires : goal.first_broken-requires
 first_broken-requires c =
-    let inside : c.args.offset + header_length ≤ length c.args.memory.now = lies-fits _ _ _ (lies-inside c.args.offset header_length 0 (length c.args.memory.now) c.in-Inside.field-0 (sym c.place_in.ensures ∙ c.in-Inside.is)) in
+    let inside : c.args.offset + header_length ≤ length c.args.memory.now = lies-fits _ _ _ (lies-inside c.args.offset header_length 0 (length c.args.memory.now) c.in-Some.field-0 (sym c.place_in.ensures ∙ c.in-Some.is)) in
     inside
 
 pub bounds-memory-start : goal.bounds-memory-start
 bounds-memory-start c =
-    let inside : c.args.offset + header_length ≤ length c.args.memory.now = lies-fits _ _ _ (lies-inside c.args.offset header_length 0 (length c.args.memory.now) c.in-Inside.field-0 (sym c.place_in.ensures ∙ c.in-Inside.is)) in
+    let inside : c.args.offset + header_length ≤ length c.args.memory.now = lies-fits _ _ _ (lies-inside c.args.offset header_length 0 (length c.args.memory.now) c.in-Some.field-0 (sym c.place_in.ensures ∙ c.in-Some.is)) in
     omega (arith, inside)
 
 pub overflow_cast-result : goal.overflow_cast-result
@@ -33,12 +33,12 @@ overflow_cast-result c =
 
 pub number32_at-requires : goal.number32_at-requires
 number32_at-requires c =
-    let inside : c.args.offset + header_length ≤ length c.args.memory.now = lies-fits _ _ _ (lies-inside c.args.offset header_length 0 (length c.args.memory.now) c.in-Inside.field-0 (sym c.place_in.ensures ∙ c.in-Inside.is)) in
+    let inside : c.args.offset + header_length ≤ length c.args.memory.now = lies-fits _ _ _ (lies-inside c.args.offset header_length 0 (length c.args.memory.now) c.in-Some.field-0 (sym c.place_in.ensures ∙ c.in-Some.is)) in
     omega (arith, inside)
 
 pub returns : goal.returns
 unfolding read_image
 returns c =
-    let inside : c.args.offset + header_length ≤ length c.args.memory.now = lies-fits _ _ _ (lies-inside c.args.offset header_length 0 (length c.args.memory.now) c.in-Inside.field-0 (sym c.place_in.ensures ∙ c.in-Inside.is)) in
+    let inside : c.args.offset + header_length ≤ length c.args.memory.now = lies-fits _ _ _ (lies-inside c.args.offset header_length 0 (length c.args.memory.now) c.in-Some.field-0 (sym c.place_in.ensures ∙ c.in-Some.is)) in
     let number = c.number_of-2.ensures ∙ ap rule_number c.first_broken.ensures in
     simp (le-leb _ _ inside, number, c.number32_at.ensures)

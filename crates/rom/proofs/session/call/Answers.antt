@@ -18,14 +18,14 @@ pub act-end-requires : goal.act-end-requires
 act-end-requires c =
     record {
       fits = sym c.is_ram_length.ensures ∙ c.if-not-is_ram_length.false;
-      step_sound = decoded-sound _ c.args.session _ _ (sym c.decode.ensures ∙ c.in-Sound.is);
+      step_sound = decoded-sound _ c.args.session _ _ (sym c.decode.ensures ∙ c.in-Some.is);
     }
 
-pub returns-in-Sound : goal.returns-in-Sound
-returns-in-Sound c =
-    good _ _ _ _ _ (sym c.is_ram_length.ensures ∙ c.if-not-is_ram_length.false) _ _ (sym c.decode.ensures ∙ c.in-Sound.is)
+pub returns-in-Some : goal.returns-in-Some
+returns-in-Some c =
+    good _ _ _ _ _ (sym c.is_ram_length.ensures ∙ c.if-not-is_ram_length.false) _ _ (sym c.decode.ensures ∙ c.in-Some.is)
     _ _ _ _ _ _ _ c.act-end.ensures (rw c.encode.ensures refl)
 
-pub returns-in-Unsound : goal.returns-in-Unsound
-returns-in-Unsound c =
-    bad-record _ _ _ _ _ (sym c.is_ram_length.ensures ∙ c.if-not-is_ram_length.false) (sym c.decode.ensures ∙ c.in-Unsound.is) c.refused-in-Unsound.ensures
+pub returns-in-None : goal.returns-in-None
+returns-in-None c =
+    bad-record _ _ _ _ _ (sym c.is_ram_length.ensures ∙ c.if-not-is_ram_length.false) (sym c.decode.ensures ∙ c.in-None.is) c.refused-in-None.ensures

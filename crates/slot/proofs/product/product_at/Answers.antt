@@ -19,34 +19,34 @@ returns-in_default c =
 
 pub is_marked-requires : goal.is_marked-requires
 is_marked-requires c =
-    let lies : lies_in c.args.offset product_length 0 (length c.args.flash.now) ≡ true = lies-inside c.args.offset product_length 0 (length c.args.flash.now) c.in-Inside.field-0 (sym c.place.ensures ∙ c.in-Inside.is) in
+    let lies : lies_in c.args.offset product_length 0 (length c.args.flash.now) ≡ true = lies-inside c.args.offset product_length 0 (length c.args.flash.now) c.in-Some.field-0 (sym c.place.ensures ∙ c.in-Some.is) in
     let inside : c.args.offset + product_length ≤ length c.args.flash.now = lies-fits _ _ _ lies in
     omega (arith, inside)
 
 pub returns-then-not-is_marked : goal.returns-then-not-is_marked
 unfolding product_at product_inside product_marked
 returns-then-not-is_marked c =
-    let lies : lies_in c.args.offset product_length 0 (length c.args.flash.now) ≡ true = lies-inside c.args.offset product_length 0 (length c.args.flash.now) c.in-Inside.field-0 (sym c.place.ensures ∙ c.in-Inside.is) in
+    let lies : lies_in c.args.offset product_length 0 (length c.args.flash.now) ≡ true = lies-inside c.args.offset product_length 0 (length c.args.flash.now) c.in-Some.field-0 (sym c.place.ensures ∙ c.in-Some.is) in
     let sound = sym c.is_flash_length.ensures ∙ c.if-not-is_flash_length.false in
     let unmarked = sym c.is_marked.ensures ∙ c.if-not-is_marked.true in
     simp (sound, lies, unmarked)
 
 pub number32_at-requires : goal.number32_at-requires
 number32_at-requires c =
-    let lies : lies_in c.args.offset product_length 0 (length c.args.flash.now) ≡ true = lies-inside c.args.offset product_length 0 (length c.args.flash.now) c.in-Inside.field-0 (sym c.place.ensures ∙ c.in-Inside.is) in
+    let lies : lies_in c.args.offset product_length 0 (length c.args.flash.now) ≡ true = lies-inside c.args.offset product_length 0 (length c.args.flash.now) c.in-Some.field-0 (sym c.place.ensures ∙ c.in-Some.is) in
     let inside : c.args.offset + product_length ≤ length c.args.flash.now = lies-fits _ _ _ lies in
     omega (arith, inside)
 
 pub number32_at-requires-2 : goal.number32_at-requires-2
 number32_at-requires-2 c =
-    let lies : lies_in c.args.offset product_length 0 (length c.args.flash.now) ≡ true = lies-inside c.args.offset product_length 0 (length c.args.flash.now) c.in-Inside.field-0 (sym c.place.ensures ∙ c.in-Inside.is) in
+    let lies : lies_in c.args.offset product_length 0 (length c.args.flash.now) ≡ true = lies-inside c.args.offset product_length 0 (length c.args.flash.now) c.in-Some.field-0 (sym c.place.ensures ∙ c.in-Some.is) in
     let inside : c.args.offset + product_length ≤ length c.args.flash.now = lies-fits _ _ _ lies in
     omega (arith, inside)
 
 pub returns : goal.returns
 unfolding product_at product_inside product_marked
 returns c =
-    let lies : lies_in c.args.offset product_length 0 (length c.args.flash.now) ≡ true = lies-inside c.args.offset product_length 0 (length c.args.flash.now) c.in-Inside.field-0 (sym c.place.ensures ∙ c.in-Inside.is) in
+    let lies : lies_in c.args.offset product_length 0 (length c.args.flash.now) ≡ true = lies-inside c.args.offset product_length 0 (length c.args.flash.now) c.in-Some.field-0 (sym c.place.ensures ∙ c.in-Some.is) in
     let sound = sym c.is_flash_length.ensures ∙ c.if-not-is_flash_length.false in
     let mark = sym c.is_marked.ensures ∙ c.if-not-is_marked.false in
     simp (sound, lies, mark, c.number32_at.ensures, c.number32_at-2.ensures)

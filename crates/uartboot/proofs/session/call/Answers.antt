@@ -13,14 +13,14 @@ pub act-end-requires : goal.act-end-requires
 act-end-requires c =
     record {
       fitting = fitting _ _ _ (sym c.refusal-number.ensures ∙ c.if-number-ne0.false);
-      step_sound = decoded-sound _ _ c.args.session _ (sym c.decode.ensures ∙ c.in-At.is);
+      step_sound = decoded-sound _ _ c.args.session _ (sym c.decode.ensures ∙ c.in-Some.is);
     }
 
-pub returns-in-At : goal.returns-in-At
-returns-in-At c =
-    good _ _ _ _ _ (sym c.refusal-number.ensures ∙ c.if-number-ne0.false) _ (sym c.decode.ensures ∙ c.in-At.is) _ _ _ _ _ _ _
+pub returns-in-Some : goal.returns-in-Some
+returns-in-Some c =
+    good _ _ _ _ _ (sym c.refusal-number.ensures ∙ c.if-number-ne0.false) _ (sym c.decode.ensures ∙ c.in-Some.is) _ _ _ _ _ _ _
     c.act-end.ensures (rw c.encode.ensures refl)
 
-pub returns-in-Unsound : goal.returns-in-Unsound
-returns-in-Unsound c =
-    bad-record _ _ _ _ _ (sym c.refusal-number.ensures ∙ c.if-number-ne0.false) (sym c.decode.ensures ∙ c.in-Unsound.is) c.refused-in-Unsound.ensures
+pub returns-in-None : goal.returns-in-None
+returns-in-None c =
+    bad-record _ _ _ _ _ (sym c.refusal-number.ensures ∙ c.if-number-ne0.false) (sym c.decode.ensures ∙ c.in-None.is) c.refused-in-None.ensures
