@@ -17,7 +17,7 @@ use Rattle.host_command.specs.declared.Exchange.{Exchange}
 use Rattle.host_command.specs.Exchange.{Lent, lent, exchange_of}
 use Rattle.host_flow.specs.declared.step.Step.{Step}
 use Rattle.host_flow.specs.declared.step.Step.TheVariants as step
-use Rattle.host_flow.specs.declared.step.Moved.{Moved}
+use Rattle.machine.specs.declared.step.Moved.{Moved}
 use Rattle.host_flow.specs.declared.ask.Taking.{Taking}
 use Rattle.host_flow.specs.declared.ask.Sending.{Sending}
 use Rattle.host_flow.specs.declared.ask.Ask.{Ask}
@@ -45,7 +45,7 @@ pub record At (x : Exchange) (first : Step) (reason₀ : ℕ) (payload answer₀
   pub turn : Turn host (Held (lent_to x payload answer₀)) (state first reason₀ (lent_to x payload answer₀)) input old (state s last (lent_to x payload answer)) output i j
 
 -- a look takes a byte at most
-look-few : (reason byte : ℕ) (r : Moved) → Looked reason byte r → r.count ≤ 1
+look-few : (reason byte : ℕ) (r : Moved Step) → Looked reason byte r → r.count ≤ 1
 look-few reason byte r l = rw l.count_is (in-cond (λ (k : ℕ). k ≤ 1) (eqb byte stx) 0 1 (λ t. omega arith) (λ t. omega arith))
 
 module _ {x : Exchange} {first : Step} {reason₀ : ℕ} {payload answer₀ input old : List ℕ} where
@@ -54,7 +54,7 @@ module _ {x : Exchange} {first : Step} {reason₀ : ℕ} {payload answer₀ inpu
 
   -- a look at the next byte, after which the command is over
   look-acted : {last : ℕ} {answer output : List ℕ} {i j : ℕ} → At x first reason₀ payload answer₀ input old step.Look last answer output i j → i < length input →
-      (r : Moved) → Looked last (get_or input i 0) r →
+      (r : Moved Step) → Looked last (get_or input i 0) r →
       Acted host (state first reason₀ (lent_to x payload answer₀)) input old (i + r.count) j 3 (state r.step r.reason (lent_to x payload answer)) output
   look-acted {last} {answer} {i = i} t h r l =
       let c = lent_to x payload answer in
@@ -77,7 +77,7 @@ module _ {x : Exchange} {first : Step} {reason₀ : ℕ} {payload answer₀ inpu
         pub ready-to-take : FitsTaking y x (length answer)
         ready-to-take = fits-taking last (lent_to x payload answer) x t.known s t.turn.keeps.ready y takes-so
 
-        module _ {r : Moved} {answer' : List ℕ} (h : TakenSo y x last payload input i answer r answer') where
+        module _ {r : Moved Step} {answer' : List ℕ} (h : TakenSo y x last payload input i answer r answer') where
           taken : Taken host input i (state s last (lent_to x payload answer)) r.count (state r.step r.reason (lent_to x payload answer'))
           taken = h.is x.opcode s t.known takes-so
 
@@ -101,7 +101,7 @@ module _ {x : Exchange} {first : Step} {reason₀ : ℕ} {payload answer₀ inpu
         pub ready-to-send : FitsSending y x (length payload) (length answer)
         ready-to-send = fits-sending last (lent_to x payload answer) x t.known s t.turn.keeps.ready y sends-so
 
-        module _ {r : Moved} {output' : List ℕ} (h : SentSo y x last payload answer j output r output') where
+        module _ {r : Moved Step} {output' : List ℕ} (h : SentSo y x last payload answer j output r output') where
           sent-all : Sent host (state s last (lent_to x payload answer)) j output r.count (state r.step r.reason (lent_to x payload answer)) output'
           sent-all = h.is x.opcode s t.known sends-so
 
@@ -126,10 +126,10 @@ module _ {x : Exchange} {first : Step} {reason₀ : ℕ} {payload answer₀ inpu
             Acted host (state first reason₀ (lent_to x payload answer₀)) input old i j 1 (state s last (lent_to x payload answer)) output
         look-hungry h = turn-hungry host silent (held (lent_to x payload answer₀) Any) t.turn (rw is-look refl) h
 
-        pub look-fits : i < length input → (r : Moved) → Looked last (get_or input i 0) r → i + r.count ≤ length input
+        pub look-fits : i < length input → (r : Moved Step) → Looked last (get_or input i 0) r → i + r.count ≤ length input
         look-fits h r l = omega (arith, look-few last (get_or input i 0) r l)
 
-        pub looked : i < length input → (r : Moved) → Looked last (get_or input i 0) r →
+        pub looked : i < length input → (r : Moved Step) → Looked last (get_or input i 0) r →
             Acted host (state first reason₀ (lent_to x payload answer₀)) input old (i + r.count) j 3 (state r.step r.reason (lent_to x payload answer)) output
         looked h r l = look-acted (subst (λ (y : Step). At x first reason₀ payload answer₀ input old y last answer output i j) is-look t) h r l
 

@@ -5,6 +5,7 @@ use Rattle.opcodes.specs.Opcode.{opcode_of, has_length}
 use Rattle.host_command.specs.declared.Judged.{Judged}
 use Rattle.host_command.specs.declared.Judged.TheVariants.{Accepted, Refused}
 use Rattle.host_command.specs.Exchange.{Lent, exchange, awaited}
+use Rattle.opcodes.specs.declared.Opcode.{Opcode}
 
 -- the numbers: no command, or not with this length; an answer buffer that is too short
 abbrev pub bad_command : ℕ

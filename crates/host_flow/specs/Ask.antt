@@ -7,7 +7,7 @@ use Rattle.host_command.specs.declared.Exchange.{Exchange}
 use Rattle.host_command.specs.Exchange.{Lent, lent, exchange_of, exchange, awaited_of}
 use Rattle.host_flow.specs.declared.step.Step.{Step}
 use Rattle.host_flow.specs.declared.step.Step.TheVariants as step
-use Rattle.host_flow.specs.declared.step.Moved.{Moved}
+use Rattle.machine.specs.declared.step.Moved.{Moved}
 use Rattle.host_flow.specs.declared.ask.Taking.{Taking}
 use Rattle.host_flow.specs.declared.ask.Taking.TheVariants.{Awaited, Any, CrcLow, CrcHigh, LengthLow, LengthHigh, Answer}
 use Rattle.host_flow.specs.declared.ask.Sending.{Sending}
@@ -66,10 +66,10 @@ FitsSending sending.Crc x payload room = awaited_of x.follows ≤ room
 FitsSending sending.CrcHigh x payload room = awaited_of x.follows ≤ room
 
 -- what a taking took, and a sending sent, for each opcode from which with this payload x is known, and each step that asks it
-pub record TakenSo (t : Taking) (x : Exchange) (reason : ℕ) (payload input : List ℕ) (i : ℕ) (answer : List ℕ) (moved : Moved) (answer' : List ℕ) : Type 0 where
+pub record TakenSo (t : Taking) (x : Exchange) (reason : ℕ) (payload input : List ℕ) (i : ℕ) (answer : List ℕ) (moved : Moved Step) (answer' : List ℕ) : Type 0 where
   pub is : (opcode : ℕ) (s : Step) → exchange_of opcode payload ≡ x → TakesSo t x s →
       Taken host input i (state s reason (lent opcode payload answer)) moved.count (state moved.step moved.reason (lent opcode payload answer'))
 
-pub record SentSo (t : Sending) (x : Exchange) (reason : ℕ) (payload answer : List ℕ) (j : ℕ) (old : List ℕ) (moved : Moved) (output : List ℕ) : Type 0 where
+pub record SentSo (t : Sending) (x : Exchange) (reason : ℕ) (payload answer : List ℕ) (j : ℕ) (old : List ℕ) (moved : Moved Step) (output : List ℕ) : Type 0 where
   pub is : (opcode : ℕ) (s : Step) → exchange_of opcode payload ≡ x → SendsSo t x s →
       Sent host (state s reason (lent opcode payload answer)) j old moved.count (state moved.step moved.reason (lent opcode payload answer)) output

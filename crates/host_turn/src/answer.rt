@@ -4,7 +4,8 @@ ghost use Rattle.std.specs.Prelude.{◌≡◌, ◌≤◌, ◌<◌, length};
 ghost use Rattle.host_flow.specs.Flow.{answer_crc, collected};
 ghost use Rattle.host_flow.specs.Gives.{AnswerTaken, CrcSent};
 
-use host_flow::step::{Moved, Step};
+use host_flow::step::Step;
+use machine::step::Moved;
 use memory::copy::copy_up_to;
 use numbers::{high_byte, low_byte};
 
@@ -27,7 +28,7 @@ pub fn take_answer(
     input: &[u8],
     i: usize,
     answer: &mut [u8],
-) -> Moved
+) -> Moved<Step>
     requires { (place < size) × (size ≤ length answer.old) × (i < length input.now) }
     ensures { AnswerTaken size place reason input.now i answer.old result answer.new }
 {
@@ -49,7 +50,7 @@ fn crc_of(size: u32, answer: &[u8]) -> u16
 }
 
 // Sends the low byte of the answer's CRC as output byte j, and its high byte after that where there is room.
-pub fn send_crc(size: u32, reason: u32, answer: &[u8], output: &mut [u8], j: usize) -> Moved
+pub fn send_crc(size: u32, reason: u32, answer: &[u8], output: &mut [u8], j: usize) -> Moved<Step>
     requires { (size ≤ length answer.now) × (j < length output.old) }
     ensures { CrcSent Step.SendCrcLow size reason answer.now j output.old result output.new }
 {
@@ -72,7 +73,13 @@ pub fn send_crc(size: u32, reason: u32, answer: &[u8], output: &mut [u8], j: usi
 }
 
 // Sends the high byte of the answer's CRC as output byte j.
-pub fn send_crc_high(size: u32, reason: u32, answer: &[u8], output: &mut [u8], j: usize) -> Moved
+pub fn send_crc_high(
+    size: u32,
+    reason: u32,
+    answer: &[u8],
+    output: &mut [u8],
+    j: usize,
+) -> Moved<Step>
     requires { (size ≤ length answer.now) × (j < length output.old) }
     ensures { CrcSent Step.SendCrcHigh size reason answer.now j output.old result output.new }
 {

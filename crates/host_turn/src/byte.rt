@@ -4,12 +4,13 @@ ghost use Rattle.host_flow.specs.Gives.{EndsIn, GivesBeside, GivesAwaiting};
 ghost use Rattle.numbers.specs.Number.{paired};
 
 use host_flow::reason::{DEVICE_CRC, DEVICE_REFUSED, OUT_OF_FLOW};
-use host_flow::step::{Progress, Step, to};
+use host_flow::step::Step;
+use machine::step::{Progress, to};
 use numbers::{low_byte, pair};
 use wire::line::NAK;
 
 // A byte came where `wanted` is awaited.
-pub fn took_awaited(wanted: u8, next: Step, reason: u32, byte: u8) -> Progress
+pub fn took_awaited(wanted: u8, next: Step, reason: u32, byte: u8) -> Progress<Step>
     ensures { EndsIn result (λ c. expected reason c wanted byte next) }
 {
     if byte == wanted {
@@ -22,14 +23,14 @@ pub fn took_awaited(wanted: u8, next: Step, reason: u32, byte: u8) -> Progress
 }
 
 // The low byte of the device's CRC.
-pub fn took_crc_low(reason: u32, byte: u8) -> Progress
+pub fn took_crc_low(reason: u32, byte: u8) -> Progress<Step>
     ensures { EndsIn result (λ c. goes reason c (Step.TakeCrcHigh byte)) }
 {
     to(Step::TakeCrcHigh(byte as u32), reason)
 }
 
 // The high byte of the device's CRC, which is then compared with the payload's.
-pub fn took_crc_high(low: u32, reason: u32, byte: u8, payload: &[u8]) -> Progress
+pub fn took_crc_high(low: u32, reason: u32, byte: u8, payload: &[u8]) -> Progress<Step>
     ensures { GivesBeside payload.now result (λ c. crc_came reason c (paired low byte)) }
 {
     if pair(low, byte) == (crc::crc16::crc_of(payload) as usize) {
@@ -40,7 +41,7 @@ pub fn took_crc_high(low: u32, reason: u32, byte: u8, payload: &[u8]) -> Progres
 }
 
 // The low byte of an answer's length.
-pub fn took_length_low(awaited: u32, reason: u32, byte: u8) -> Progress
+pub fn took_length_low(awaited: u32, reason: u32, byte: u8) -> Progress<Step>
     ensures { GivesAwaiting awaited result (λ c. length_began reason c byte) }
 {
     if byte == low_byte(awaited) {
@@ -53,7 +54,7 @@ pub fn took_length_low(awaited: u32, reason: u32, byte: u8) -> Progress
 }
 
 // The high byte of an answer's length, which is then judged.
-pub fn took_length_high(awaited: u32, low: u32, reason: u32, byte: u8) -> Progress
+pub fn took_length_high(awaited: u32, low: u32, reason: u32, byte: u8) -> Progress<Step>
     ensures { GivesAwaiting awaited result (λ c. length_came reason c (paired low byte)) }
 {
     let size = pair(low, byte);

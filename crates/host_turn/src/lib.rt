@@ -10,24 +10,13 @@ use crate::byte::{took_awaited, took_crc_high, took_crc_low, took_length_high, t
 use crate::payload::send_payload;
 use host_command::{Exchange, awaited_of};
 use host_flow::ask::{Sending, Taking};
-use host_flow::step::{Moved, Progress, Step, to};
+use host_flow::step::Step;
+use machine::step::{Moved, Progress, to};
 use wire::line::STX;
 
 pub mod answer;
 pub mod byte;
 pub mod payload;
-
-// One byte was taken, or sent.
-fn one(after: Progress) -> Moved
-    ensures { result ≡ record { step = after.step; reason = after.reason; count = 1 } }
-{
-    let step = after.step;
-    Moved {
-        step: step,
-        reason: after.reason,
-        count: 1,
-    }
-}
 
 // Takes what a step asks, from input byte i on.
 pub fn take(
@@ -38,7 +27,7 @@ pub fn take(
     input: &[u8],
     i: usize,
     answer: &mut [u8],
-) -> Moved
+) -> Moved<Step>
     requires fits_taking { FitsTaking taking x (length answer.old) }
     requires i_in_bounds { i < length input.now }
     ensures { TakenSo taking x reason payload.now input.now i answer.old result answer.new }
@@ -46,12 +35,12 @@ pub fn take(
     let follows = x.follows;
     let awaited = awaited_of(follows);
     match taking {
-        Taking::Awaited(byte, next) => one(took_awaited(byte, next, reason, input[i])),
-        Taking::Any(next) => one(to(next, reason)),
-        Taking::CrcLow => one(took_crc_low(reason, input[i])),
-        Taking::CrcHigh(low) => one(took_crc_high(low, reason, input[i], payload)),
-        Taking::LengthLow => one(took_length_low(awaited, reason, input[i])),
-        Taking::LengthHigh(low) => one(took_length_high(awaited, low, reason, input[i])),
+        Taking::Awaited(byte, next) => took_awaited(byte, next, reason, input[i]).by_one(),
+        Taking::Any(next) => to(next, reason).by_one(),
+        Taking::CrcLow => took_crc_low(reason, input[i]).by_one(),
+        Taking::CrcHigh(low) => took_crc_high(low, reason, input[i], payload).by_one(),
+        Taking::LengthLow => took_length_low(awaited, reason, input[i]).by_one(),
+        Taking::LengthHigh(low) => took_length_high(awaited, low, reason, input[i]).by_one(),
         Taking::Answer(place) => take_answer(awaited, place, reason, input, i, answer),
     }
 }
@@ -65,7 +54,7 @@ pub fn send(
     output: &mut [u8],
     j: usize,
     answer: &[u8],
-) -> Moved
+) -> Moved<Step>
     requires fits_sending { FitsSending sending x (length payload.now) (length answer.now) }
     requires j_in_bounds { j < length output.old }
     ensures { SentSo sending x reason payload.now answer.now j output.old result output.new }
@@ -75,7 +64,7 @@ pub fn send(
     match sending {
         Sending::Byte(byte, next) => {
             output[j] = byte;
-            one(to(next, reason))
+            to(next, reason).by_one()
         }
         Sending::Payload(place) => send_payload(x.size, place, reason, payload, output, j),
         Sending::Crc => send_crc(awaited, reason, answer, output, j),
@@ -84,7 +73,7 @@ pub fn send(
 }
 
 // Looks at the byte that comes where the next greeting is awaited. Its 02 stays untaken.
-pub fn look(reason: u32, byte: u8) -> Moved
+pub fn look(reason: u32, byte: u8) -> Moved<Step>
     ensures { Looked reason byte result }
 {
     if byte == STX {
@@ -94,5 +83,5 @@ pub fn look(reason: u32, byte: u8) -> Moved
             count: 0,
         };
     }
-    one(took_awaited(STX, Step::Over, reason, byte))
+    took_awaited(STX, Step::Over, reason, byte).by_one()
 }

@@ -3,7 +3,8 @@ ghost use Rattle.std.specs.Prelude.{◌≡◌, ◌<◌, length};
 ghost use Rattle.host_flow.specs.Flow.{paid};
 ghost use Rattle.host_flow.specs.Gives.{PayloadSent};
 
-use host_flow::step::{Moved, Step};
+use host_flow::step::Step;
+use machine::step::Moved;
 use memory::copy::copy_up_to;
 
 // The step once `count` of the payload's bytes are sent.
@@ -25,7 +26,7 @@ pub fn send_payload(
     payload: &[u8],
     output: &mut [u8],
     j: usize,
-) -> Moved
+) -> Moved<Step>
     requires { (place < size) × (size ≡ length payload.now) × (j < length output.old) }
     ensures { PayloadSent place reason payload.now j output.old result output.new }
 {

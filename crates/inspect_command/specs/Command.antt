@@ -6,6 +6,7 @@ use Rattle.command.specs.declared.payload.Command.TheVariants.{Write, Read, Copy
 use Rattle.opcodes.specs.Opcode.{unknown_opcode, bad_length, opcode_of, has_length}
 use Rattle.command.specs.Payload.{command_of}
 use Rattle.inspect_command.specs.declared.CommandRead.{CommandRead}
+use Rattle.opcodes.specs.declared.Opcode.{Opcode}
 
 -- the longest payload whose length a header's two bytes can say
 abbrev pub longest_payload : ℕ

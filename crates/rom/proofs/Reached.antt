@@ -22,6 +22,7 @@ use Rattle.rom_flow.proofs.Laws.{held}
 use Rattle.rom_record.specs.Record.{written, decoded_of}
 use Rattle.rom.specs.Session.{rom}
 use Rattle.rom_record.proofs.Records.{decoded-sound, reads_back}
+use Rattle.rom_flow.specs.declared.step.Step.{Step}
 
 -- a RAM's length is accepted exactly if it is not refused
 pub ram-fits : (t : Bool) → ◌≡◌ {A = ℕ} (cond t 0 2) 0 → t ≡ true

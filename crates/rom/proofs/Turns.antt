@@ -12,7 +12,7 @@ use Rattle.machine.proofs.Turns.{Turn}
 use Rattle.machine.proofs.Turns as turns
 use Rattle.rom_flow.specs.declared.kind.Kind.{Kind}
 use Rattle.rom_flow.specs.declared.step.Step.{Step}
-use Rattle.rom_flow.specs.declared.step.Moved.{Moved}
+use Rattle.machine.specs.declared.step.Moved.{Moved}
 use Rattle.rom_flow.specs.declared.ask.Taking.{Taking}
 use Rattle.rom_flow.specs.declared.ask.Sending.{Sending}
 use Rattle.rom_flow.specs.declared.ask.Sending.TheVariants.{Byte, Xor}
@@ -62,7 +62,7 @@ module _ {kind : Kind} {first : Step} {reason₀ : ℕ} {ram₀ input old : List
           go (Byte byte next) so = tt
           go (Xor total) so = (rw so at t.keeps.ready.step_sound).1
 
-      pub sent : {r : Moved} {reply' : List ℕ} → SentSo x last ram j reply r reply' →
+      pub sent : {r : Moved Step} {reply' : List ℕ} → SentSo x last ram j reply r reply' →
           Sent receiver (state kind s last ram) j reply r.count (state kind r.step r.reason ram) reply'
       sent h = h.is kind s sends-so
 

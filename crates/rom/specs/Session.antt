@@ -7,6 +7,8 @@ use Rattle.machine.specs.declared.Report.{Report}
 use Rattle.rom_flow.specs.State.{State, state}
 use Rattle.rom_flow.specs.Receiver.{receiver}
 use Rattle.rom_record.specs.Record.{written, decoded_of}
+use Rattle.rom_flow.specs.declared.step.Step.{Step}
+use Rattle.rom_flow.specs.declared.kind.Kind.{Kind}
 
 abbrev pub read_of : Option (Kind × Step) → (reason : ℕ) (ram : List ℕ) → Read State
 read_of (Some (kind, step)) reason ram = sound (state kind step reason ram)

@@ -6,7 +6,7 @@ use Rattle.machine.specs.Steps.{Sent}
 use Rattle.rom_flow.specs.declared.kind.Kind.{Kind}
 use Rattle.rom_flow.specs.declared.step.Step.{Step}
 use Rattle.rom_flow.specs.declared.step.Step.TheVariants.{Header, TakeCode, SendXor, TakeAck}
-use Rattle.rom_flow.specs.declared.step.Moved.{Moved}
+use Rattle.machine.specs.declared.step.Moved.{Moved}
 use Rattle.rom_flow.specs.declared.ask.Taking.{Taking}
 use Rattle.rom_flow.specs.declared.ask.Taking.TheVariants as taking
 use Rattle.rom_flow.specs.declared.ask.Sending.{Sending}
@@ -46,6 +46,6 @@ Asked (Send t) step = SendsSo t step
 Asked Halt step = Halts step
 
 -- what a sending sent, for each kind and each step that sends it
-pub record SentSo (sending : Sending) (reason : ℕ) (ram : List ℕ) (j : ℕ) (old : List ℕ) (moved : Moved) (reply : List ℕ) : Type 0 where
+pub record SentSo (sending : Sending) (reason : ℕ) (ram : List ℕ) (j : ℕ) (old : List ℕ) (moved : Moved Step) (reply : List ℕ) : Type 0 where
   pub is : (kind : Kind) (step : Step) → SendsSo sending step →
       Sent receiver (state kind step reason ram) j old moved.count (state kind moved.step moved.reason ram) reply

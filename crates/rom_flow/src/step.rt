@@ -1,5 +1,4 @@
 // The steps of the receiver's flow.
-ghost use Rattle.std.specs.Prelude.{◌≡◌};
 
 use wire::unit::RamAddress;
 
@@ -24,28 +23,4 @@ pub enum Step {
     TakeAck(u32),
     SendNak,
     Running(RamAddress),
-}
-
-// A step together with the last reason.
-#[derive(Clone, Copy)]
-pub struct Progress {
-    pub step: Step,
-    pub reason: u32,
-}
-
-pub fn to(step: Step, reason: u32) -> Progress
-    ensures { result ≡ record { step = step; reason = reason } }
-{
-    Progress {
-        step: step,
-        reason: reason,
-    }
-}
-
-// The same after `count` bytes were taken, or sent.
-#[derive(Clone, Copy)]
-pub struct Moved {
-    pub step: Step,
-    pub reason: u32,
-    pub count: usize,
 }

@@ -3,8 +3,9 @@ ghost use Rattle.std.specs.Prelude.{◌≡◌, ◌≤◌, ◌<◌, length, take}
 ghost use Rattle.rom_flow.specs.Gives.{EndsIn, CodeTaken};
 ghost use Rattle.rom_flow.specs.Flow.{xor_of, code_step, acked};
 
+use machine::step::{Moved, Progress, to};
 use memory::copy::copy_up_to;
-use rom_flow::step::{Moved, Progress, Step, to};
+use rom_flow::step::Step;
 use wire::line::ACK;
 use wire::unit::{RAM_BASE, RamAddress};
 
@@ -30,7 +31,7 @@ pub fn take_code(
     input: &[u8],
     i: usize,
     ram: &mut [u8],
-) -> Moved
+) -> Moved<Step>
     requires { (place < total) × (total ≤ length ram.old) × (i < length input.now) }
     ensures { CodeTaken total place reason input.now i ram.old result ram.new }
 {
@@ -57,7 +58,7 @@ pub fn xor_of(ram: &[u8], count: usize) -> u8
 }
 
 // What the byte after the XOR does.
-pub fn took_ack(reason: u32, byte: u8) -> Progress
+pub fn took_ack(reason: u32, byte: u8) -> Progress<Step>
     ensures { EndsIn result (λ kind ram. acked kind reason ram byte) }
 {
     if byte == ACK {

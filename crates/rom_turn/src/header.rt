@@ -3,9 +3,10 @@ ghost use Rattle.rom_flow.specs.Gives.{Gives, GivesEach};
 ghost use Rattle.rom_flow.specs.Flow.{zero_length, judged, headed, took};
 ghost use Rattle.rom_flow.specs.State.{state};
 
+use machine::step::{Progress, to};
 use numbers::pair;
 use rom_flow::kind::{FIRST_EXTENDED, Kind};
-use rom_flow::step::{HeaderStep, Progress, Step, to};
+use rom_flow::step::{HeaderStep, Step};
 use wire::line::SOH;
 
 // The reason where a header does not begin with 01.
@@ -18,7 +19,7 @@ pub const EMPTY_CODE: u32 = 32;
 pub const LONG_CODE: u32 = 33;
 
 // A length that is not zero, with a RAM of `size` bytes.
-fn judge(size: u32, reason: u32, total: usize) -> Progress
+fn judge(size: u32, reason: u32, total: usize) -> Progress<Step>
     ensures { GivesEach size result (λ kind ram. judged kind reason ram total) }
 {
     if total <= (size as usize) {
@@ -29,7 +30,7 @@ fn judge(size: u32, reason: u32, total: usize) -> Progress
 }
 
 // Both length bytes were zero.
-fn zero_length(kind: Kind, size: u32, reason: u32) -> Progress
+fn zero_length(kind: Kind, size: u32, reason: u32) -> Progress<Step>
     ensures { Gives size kind result (λ ram. zero_length kind reason ram) }
 {
     match kind {
@@ -39,7 +40,7 @@ fn zero_length(kind: Kind, size: u32, reason: u32) -> Progress
 }
 
 // A length of two bytes.
-fn head(kind: Kind, size: u32, reason: u32, total: usize) -> Progress
+fn head(kind: Kind, size: u32, reason: u32, total: usize) -> Progress<Step>
     ensures { Gives size kind result (λ ram. headed kind reason ram total) }
 {
     if total == 0 {
@@ -50,7 +51,7 @@ fn head(kind: Kind, size: u32, reason: u32, total: usize) -> Progress
 }
 
 // What a taken byte does to a header.
-pub fn took_header(kind: Kind, size: u32, step: HeaderStep, reason: u32, byte: u8) -> Progress
+pub fn took_header(kind: Kind, size: u32, step: HeaderStep, reason: u32, byte: u8) -> Progress<Step>
     ensures { Gives size kind result (λ ram. took (state kind (Step.Header step) reason ram) byte) }
 {
     match step {

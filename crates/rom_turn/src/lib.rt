@@ -10,24 +10,13 @@ ghost use Rattle.rom_flow.specs.State.{state};
 
 use crate::code::{take_code, took_ack, xor_of};
 use crate::header::took_header;
+use machine::step::{Moved, Progress, to};
 use rom_flow::ask::{Sending, Taking};
 use rom_flow::kind::Kind;
-use rom_flow::step::{Moved, Progress, Step, to};
+use rom_flow::step::Step;
 
 pub mod code;
 pub mod header;
-
-// One byte was taken, or sent.
-fn one(after: Progress) -> Moved
-    ensures { result ≡ record { step = after.step; reason = after.reason; count = 1 } }
-{
-    let step = after.step;
-    Moved {
-        step: step,
-        reason: after.reason,
-        count: 1,
-    }
-}
 
 // Takes what a step asks, from input byte i on.
 pub fn take(
@@ -37,20 +26,22 @@ pub fn take(
     input: &[u8],
     i: usize,
     ram: &mut [u8],
-) -> Moved
+) -> Moved<Step>
     requires ready { Ready kind (step_of taking) ram.old }
     requires i_in_bounds { i < length input.now }
     ensures { Taken receiver input.now i (state kind (step_of taking) reason ram.old) result.count (state kind result.step result.reason ram.new) }
 {
     match taking {
-        Taking::Header(step) => { one(took_header(kind, ram.len() as u32, step, reason, input[i])) }
+        Taking::Header(step) => {
+            took_header(kind, ram.len() as u32, step, reason, input[i]).by_one()
+        }
         Taking::Code(total, place) => take_code(total, place, reason, input, i, ram),
-        Taking::Ack(_) => one(took_ack(reason, input[i])),
+        Taking::Ack(_) => took_ack(reason, input[i]).by_one(),
     }
 }
 
 // Sends what a step asks, as reply byte j.
-pub fn send(sending: Sending, reason: u32, reply: &mut [u8], j: usize, ram: &[u8]) -> Moved
+pub fn send(sending: Sending, reason: u32, reply: &mut [u8], j: usize, ram: &[u8]) -> Moved<Step>
     requires in_ram { InRam sending (length ram.now) }
     requires j_in_bounds { j < length reply.old }
     ensures { SentSo sending reason ram.now j reply.old result reply.new }
@@ -58,11 +49,11 @@ pub fn send(sending: Sending, reason: u32, reply: &mut [u8], j: usize, ram: &[u8
     match sending {
         Sending::Byte(byte, next) => {
             reply[j] = byte;
-            one(to(next, reason))
+            to(next, reason).by_one()
         }
         Sending::Xor(total) => {
             reply[j] = xor_of(ram, total as usize);
-            one(to(Step::TakeAck(total), reason))
+            to(Step::TakeAck(total), reason).by_one()
         }
     }
 }

@@ -12,7 +12,7 @@ use Rattle.machine.proofs.Turns.{Turn}
 use Rattle.machine.proofs.Turns as turns
 use Rattle.memory.specs.Memories.{Memories}
 use Rattle.uartboot_flow.specs.declared.step.Step.{Step}
-use Rattle.uartboot_flow.specs.declared.step.Moved.{Moved}
+use Rattle.machine.specs.declared.step.Moved.{Moved}
 use Rattle.uartboot_flow.specs.declared.ask.Taking.{Taking}
 use Rattle.uartboot_flow.specs.declared.ask.Sending.{Sending}
 use Rattle.uartboot_flow.specs.declared.ask.Ask.{Ask}
@@ -57,7 +57,7 @@ module _ {first : Step} {reason₀ : ℕ} {m₀ : Memories} {input old : List �
         pub ready-to-send : ReadyTo x m
         ready-to-send = ready-to m x s sends-so t.keeps.ready
 
-        pub sent : {r : Moved} {m' : Memories} {reply' : List ℕ} → SentSo x last m j reply r m' reply' →
+        pub sent : {r : Moved Step} {m' : Memories} {reply' : List ℕ} → SentSo x last m j reply r m' reply' →
             Sent device (state s last m) j reply r.count (state r.step r.reason m') reply'
         sent h = h.is s sends-so
 

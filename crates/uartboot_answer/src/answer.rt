@@ -4,9 +4,10 @@ ghost use Rattle.uartboot_flow.specs.Flow as flow;
 ghost use Rattle.uartboot_flow.specs.State.{state};
 ghost use Rattle.uartboot_flow.specs.Gives.{SentFrom};
 
+use machine::step::Moved;
 use memory::copy::copy_up_to;
 use opcodes::Opcode;
-use uartboot_flow::step::{AnswerStep, Moved, Step};
+use uartboot_flow::step::{AnswerStep, Step};
 
 // The step once `count` of the answer's bytes are sent.
 fn showed(opcode: Opcode, size: u32, count: u32) -> Step
@@ -28,7 +29,7 @@ pub fn send_answer(
     work: &[u8],
     reply: &mut [u8],
     j: usize,
-) -> Moved
+) -> Moved<Step>
     requires { (place < size) × (size ≤ length work.now) × (j < length reply.old) }
     ensures { SentFrom work.now (state (Step.Answer opcode size (AnswerStep.SendAnswer place)) reason) (state result.step result.reason) j reply.old result.count reply.new }
 {

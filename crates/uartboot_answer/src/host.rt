@@ -4,15 +4,16 @@ ghost use Rattle.uartboot_flow.specs.Flow.{took};
 ghost use Rattle.uartboot_flow.specs.State.{state};
 ghost use Rattle.uartboot_flow.specs.Gives.{Gives, EndsIn};
 
+use machine::step::{Progress, to};
 use numbers::pair;
 use opcodes::Opcode;
 use uartboot_flow::checksum::crc_of;
 use uartboot_flow::reason::{CRC_DIFFERS, NOT_ACKED};
-use uartboot_flow::step::{AnswerStep, Progress, Step, to};
+use uartboot_flow::step::{AnswerStep, Step};
 use wire::line::ACK;
 
 // The byte after an answer's length: only 06 lets the answer follow.
-pub fn took_answer_go(opcode: Opcode, size: u32, reason: u32, byte: u8) -> Progress
+pub fn took_answer_go(opcode: Opcode, size: u32, reason: u32, byte: u8) -> Progress<Step>
     ensures { EndsIn result (λ m. took (state (Step.Answer opcode size AnswerStep.TakeGo) reason m) byte) }
 {
     if byte == ACK {
@@ -26,7 +27,7 @@ pub fn took_answer_go(opcode: Opcode, size: u32, reason: u32, byte: u8) -> Progr
 }
 
 // The low byte of the host's CRC.
-pub fn took_crc_low(opcode: Opcode, size: u32, reason: u32, byte: u8) -> Progress
+pub fn took_crc_low(opcode: Opcode, size: u32, reason: u32, byte: u8) -> Progress<Step>
     ensures { EndsIn result (λ m. took (state (Step.Answer opcode size AnswerStep.TakeCrcLow) reason m) byte) }
 {
     to(
@@ -43,7 +44,7 @@ pub fn took_crc_high(
     reason: u32,
     byte: u8,
     work: &[u8],
-) -> Progress
+) -> Progress<Step>
     requires { size ≤ length work.now }
     ensures { Gives work.now result (λ m. took (state (Step.Answer opcode size (AnswerStep.TakeCrcHigh low)) reason m) byte) }
 {

@@ -9,13 +9,14 @@ ghost use Rattle.uartboot_flow.specs.State.{state};
 ghost use Rattle.uartboot_flow.specs.Gives.{state_of, EndsIn};
 
 use command_execution::{Ending, execute};
+use machine::step::{Progress, to};
 use opcodes::Opcode;
 use uartboot_flow::reason::NOT_ACKED;
-use uartboot_flow::step::{AnswerStep, CommandStep, Progress, Step, to};
+use uartboot_flow::step::{AnswerStep, CommandStep, Step};
 use wire::line::ACK;
 
 // Where the flow goes after an execution.
-fn after_execution(opcode: Opcode, reason: u32, ending: Ending) -> Progress
+fn after_execution(opcode: Opcode, reason: u32, ending: Ending) -> Progress<Step>
     ensures { EndsIn result (ends reason opcode ending) }
 {
     match ending {
@@ -39,7 +40,7 @@ fn go(
     ram: &mut [u8],
     flash: &mut [u8],
     work: &mut [u8],
-) -> Progress
+) -> Progress<Step>
     requires carried { Carried opcode size (length work.old) }
     requires fitting { Fitting (length ram.old) (length flash.old) (length work.old) }
     ensures { state_of result (memories ram.new flash.new work.new) ≡ executes reason (memories ram.old flash.old work.old) opcode size }
@@ -57,7 +58,7 @@ pub fn take_go(
     ram: &mut [u8],
     flash: &mut [u8],
     work: &mut [u8],
-) -> Progress
+) -> Progress<Step>
     requires carried { Carried opcode size (length work.old) }
     requires fitting { Fitting (length ram.old) (length flash.old) (length work.old) }
     ensures { state_of result (memories ram.new flash.new work.new) ≡ took (state (Step.Command opcode size CommandStep.TakeGo) reason (memories ram.old flash.old work.old)) byte }
@@ -77,7 +78,7 @@ pub fn accept(
     ram: &mut [u8],
     flash: &mut [u8],
     work: &mut [u8],
-) -> Progress
+) -> Progress<Step>
     requires carried { Carried opcode size (length work.old) }
     requires fitting { Fitting (length ram.old) (length flash.old) (length work.old) }
     ensures { state_of result (memories ram.new flash.new work.new) ≡ after_ack reason (memories ram.old flash.old work.old) opcode size }

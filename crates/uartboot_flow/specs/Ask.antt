@@ -5,7 +5,7 @@ use Rattle.machine.specs.Does.{sends, runs}
 use Rattle.machine.specs.Steps.{Sent}
 use Rattle.memory.specs.Memories.{Memories}
 use Rattle.uartboot_flow.specs.declared.step.Step.{Step}
-use Rattle.uartboot_flow.specs.declared.step.Moved.{Moved}
+use Rattle.machine.specs.declared.step.Moved.{Moved}
 use Rattle.uartboot_flow.specs.declared.step.Step.TheVariants.{Header, Command, Answer}
 use Rattle.uartboot_flow.specs.declared.step.CommandStep.TheVariants.{SendAck, TakePayload, SendCrcLow, SendCrcHigh, TakeGo}
 use Rattle.uartboot_flow.specs.declared.step.AnswerStep.TheVariants as a
@@ -58,5 +58,5 @@ ReadyTo (sending.CrcHigh opcode size) m = Ready (Command opcode size SendCrcHigh
 ReadyTo (sending.Answer opcode size place) m = Ready (Answer opcode size (a.SendAnswer place)) m
 
 -- what a sending sent, for each step that sends it
-pub record SentSo (x : Sending) (reason : ℕ) (m : Memories) (j : ℕ) (old : List ℕ) (moved : Moved) (m' : Memories) (reply : List ℕ) : Type 0 where
+pub record SentSo (x : Sending) (reason : ℕ) (m : Memories) (j : ℕ) (old : List ℕ) (moved : Moved Step) (m' : Memories) (reply : List ℕ) : Type 0 where
   pub is : (step : Step) → SendsSo x step → Sent device (state step reason m) j old moved.count (state moved.step moved.reason m') reply

@@ -1,6 +1,4 @@
 // The steps of the flow: groups of steps, and the steps of each group.
-ghost use Rattle.std.specs.Prelude.{◌≡◌};
-ghost use Rattle.uartboot_flow.specs.Gives.{progress};
 
 use opcodes::Opcode;
 use wire::unit::RamAddress;
@@ -48,28 +46,4 @@ pub enum Step {
     Answer(Opcode, u32, AnswerStep),
     Refusal,
     Running(RamAddress),
-}
-
-// A step together with the last reason.
-#[derive(Clone, Copy)]
-pub struct Progress {
-    pub step: Step,
-    pub reason: u32,
-}
-
-pub fn to(step: Step, reason: u32) -> Progress
-    ensures { result ≡ progress step reason }
-{
-    Progress {
-        step: step,
-        reason: reason,
-    }
-}
-
-// The same after `count` bytes were taken, or sent.
-#[derive(Clone, Copy)]
-pub struct Moved {
-    pub step: Step,
-    pub reason: u32,
-    pub count: usize,
 }

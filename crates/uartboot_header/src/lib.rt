@@ -8,14 +8,15 @@ ghost use Rattle.uartboot_flow.specs.Flow.{headed, took};
 ghost use Rattle.uartboot_flow.specs.State.{state};
 ghost use Rattle.uartboot_flow.specs.Gives.{Gives};
 
+use machine::step::{Progress, to};
 use numbers::pair;
 use opcodes::{BAD_LENGTH, UNKNOWN_OPCODE, has_length, opcode_of};
 use uartboot_flow::reason::LONG_PAYLOAD;
-use uartboot_flow::step::{CommandStep, HeaderStep, Progress, Step, to};
+use uartboot_flow::step::{CommandStep, HeaderStep, Step};
 use wire::line::SOH;
 
 // Tests a header: its opcode, its length, and the length against the work buffer.
-fn head(opcode: u32, size: usize, reason: u32, work: &[u8]) -> Progress
+fn head(opcode: u32, size: usize, reason: u32, work: &[u8]) -> Progress<Step>
     requires { is_work_length (length work.now) ≡ true }
     ensures { Gives work.now result (λ m. headed reason m (opcode_of opcode) size) }
 {
@@ -35,7 +36,7 @@ fn head(opcode: u32, size: usize, reason: u32, work: &[u8]) -> Progress
 }
 
 // What a taken byte does to a header.
-pub fn took_header(step: HeaderStep, reason: u32, byte: u8, work: &[u8]) -> Progress
+pub fn took_header(step: HeaderStep, reason: u32, byte: u8, work: &[u8]) -> Progress<Step>
     requires { is_work_length (length work.now) ≡ true }
     ensures { Gives work.now result (λ m. took (state (Step.Header step) reason m) byte) }
 {

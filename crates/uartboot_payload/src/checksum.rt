@@ -3,10 +3,11 @@ ghost use Rattle.std.specs.Prelude.{◌≤◌, ◌<◌, length};
 ghost use Rattle.uartboot_flow.specs.State.{state};
 ghost use Rattle.uartboot_flow.specs.Gives.{SentFrom};
 
+use machine::step::Moved;
 use numbers::{high_byte, low_byte};
 use opcodes::Opcode;
 use uartboot_flow::checksum::crc_of;
-use uartboot_flow::step::{CommandStep, Moved, Step};
+use uartboot_flow::step::{CommandStep, Step};
 
 // Sends the low byte of the payload's CRC as reply byte j, and its high byte after that where there is room.
 pub fn send_crc(
@@ -16,7 +17,7 @@ pub fn send_crc(
     work: &[u8],
     reply: &mut [u8],
     j: usize,
-) -> Moved
+) -> Moved<Step>
     requires { (size ≤ length work.now) × (j < length reply.old) }
     ensures { SentFrom work.now (state (Step.Command opcode size CommandStep.SendCrcLow) reason) (state result.step result.reason) j reply.old result.count reply.new }
 {
@@ -46,7 +47,7 @@ pub fn send_crc_high(
     work: &[u8],
     reply: &mut [u8],
     j: usize,
-) -> Moved
+) -> Moved<Step>
     requires { (size ≤ length work.now) × (j < length reply.old) }
     ensures { SentFrom work.now (state (Step.Command opcode size CommandStep.SendCrcHigh) reason) (state result.step result.reason) j reply.old result.count reply.new }
 {

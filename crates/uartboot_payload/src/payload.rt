@@ -10,9 +10,10 @@ ghost use Rattle.uartboot_flow.specs.Gives.{state_of};
 
 use command::check::check;
 use command::payload::command_of;
+use machine::step::{Moved, Progress, to};
 use memory::copy::copy_up_to;
 use opcodes::Opcode;
-use uartboot_flow::step::{CommandStep, Moved, Progress, Step, to};
+use uartboot_flow::step::{CommandStep, Step};
 
 // The step once `count` of the payload's bytes are in.
 fn arrived(
@@ -23,7 +24,7 @@ fn arrived(
     ram: &[u8],
     flash: &[u8],
     work: &[u8],
-) -> Progress
+) -> Progress<Step>
     requires { Carried opcode size (length work.now) }
     ensures { state_of result (memories ram.now flash.now work.now) ≡ flow.arrived reason (memories ram.now flash.now work.now) opcode size count }
 {
@@ -60,7 +61,7 @@ pub fn take_payload(
     ram: &[u8],
     flash: &[u8],
     work: &mut [u8],
-) -> Moved
+) -> Moved<Step>
     requires carried { Carried opcode size (length work.old) }
     requires place_lt_size { (place < size) × (i < length input.now) }
     ensures { Taken device input.now i (state (Step.Command opcode size (CommandStep.TakePayload place)) reason (memories ram.now flash.now work.old)) result.count (state result.step result.reason (memories ram.now flash.now work.new)) }

@@ -9,27 +9,15 @@ ghost use Rattle.uartboot_flow.specs.Device.{device};
 ghost use Rattle.uartboot_flow.specs.Sound.{Ready};
 ghost use Rattle.uartboot_flow.specs.State.{state};
 
+use machine::step::{Moved, Progress, to};
 use uartboot_answer::answer::send_answer;
 use uartboot_answer::host::{took_answer_go, took_crc_high, took_crc_low};
 use uartboot_execution::{accept, take_go};
 use uartboot_flow::ask::{Sending, Taking};
-use uartboot_flow::step::{Moved, Progress, to};
 use uartboot_header::took_header;
 use uartboot_payload::checksum::{send_crc, send_crc_high};
 use uartboot_payload::payload::take_payload;
 use wire::line::ACK;
-
-// One byte was taken, or sent.
-fn one(after: Progress) -> Moved
-    ensures { result ≡ record { step = after.step; reason = after.reason; count = 1 } }
-{
-    let step = after.step;
-    Moved {
-        step: step,
-        reason: after.reason,
-        count: 1,
-    }
-}
 
 // Takes what a step asks, from input byte i on.
 pub fn take(
@@ -40,23 +28,23 @@ pub fn take(
     ram: &mut [u8],
     flash: &mut [u8],
     work: &mut [u8],
-) -> Moved
+) -> Moved<Step>
     requires ready { Ready (step_of taking) (memories ram.old flash.old work.old) }
     requires i_in_bounds { i < length input.now }
     ensures { Taken device input.now i (state (step_of taking) reason (memories ram.old flash.old work.old)) result.count (state result.step result.reason (memories ram.new flash.new work.new)) }
 {
     match taking {
-        Taking::Header(step) => one(took_header(step, reason, input[i], work)),
+        Taking::Header(step) => took_header(step, reason, input[i], work).by_one(),
         Taking::Payload(opcode, size, place) => {
             take_payload(opcode, size, place, reason, input, i, ram, flash, work)
         }
         Taking::Go(opcode, size) => {
-            one(take_go(opcode, size, reason, input[i], ram, flash, work))
+            take_go(opcode, size, reason, input[i], ram, flash, work).by_one()
         }
-        Taking::AnswerGo(opcode, size) => one(took_answer_go(opcode, size, reason, input[i])),
-        Taking::HostCrcLow(opcode, size) => one(took_crc_low(opcode, size, reason, input[i])),
+        Taking::AnswerGo(opcode, size) => took_answer_go(opcode, size, reason, input[i]).by_one(),
+        Taking::HostCrcLow(opcode, size) => took_crc_low(opcode, size, reason, input[i]).by_one(),
         Taking::HostCrcHigh(opcode, size, low) => {
-            one(took_crc_high(opcode, size, low, reason, input[i], work))
+            took_crc_high(opcode, size, low, reason, input[i], work).by_one()
         }
     }
 }
@@ -70,7 +58,7 @@ pub fn send(
     ram: &mut [u8],
     flash: &mut [u8],
     work: &mut [u8],
-) -> Moved
+) -> Moved<Step>
     requires ready_to { ReadyTo sending (memories ram.old flash.old work.old) }
     requires j_in_bounds { j < length reply.old }
     ensures { SentSo sending reason (memories ram.old flash.old work.old) j reply.old result (memories ram.new flash.new work.new) reply.new }
@@ -78,11 +66,11 @@ pub fn send(
     match sending {
         Sending::Byte(byte, next) => {
             reply[j] = byte;
-            one(to(next, reason))
+            to(next, reason).by_one()
         }
         Sending::Acceptance(opcode, size) => {
             reply[j] = ACK;
-            one(accept(opcode, size, reason, ram, flash, work))
+            accept(opcode, size, reason, ram, flash, work).by_one()
         }
         Sending::Crc(opcode, size) => send_crc(opcode, size, reason, work, reply, j),
         Sending::CrcHigh(opcode, size) => send_crc_high(opcode, size, reason, work, reply, j),

@@ -15,4 +15,4 @@ pub returns : goal.returns
 returns c =
     let other = ne_eqb _ _ c.if-byte-eq-STX.false in
     let ended : c.took_awaited.result.step ≡ Over = rw other at (ap (λ (s : State). s.step) (c.took_awaited.ensures.is (lent 0 [] []))) in
-    rw c.one.ensures (record { over = ended; is = c.took_awaited.ensures.is; count_is = rw other refl })
+    rw c.by_one.ensures (record { over = ended; is = c.took_awaited.ensures.is; count_is = rw other refl })

@@ -23,7 +23,7 @@ send_crc_high-requires c =
 
 pub returns-in-Byte : goal.returns-in-Byte
 returns-in-Byte c =
-    record { is = λ opcode s known so. sends-one _ _ s _ _ ((rw c.in-Byte.is at so).is _ _ known) _ _ c.requires.j_in_bounds _ c.to.ensures _ c.one.ensures }
+    record { is = λ opcode s known so. sends-one _ _ s _ _ ((rw c.in-Byte.is at so).is _ _ known) _ _ c.requires.j_in_bounds _ c.to.ensures _ c.by_one.ensures }
 
 pub returns-in-Payload : goal.returns-in-Payload
 returns-in-Payload c =

@@ -16,7 +16,7 @@ take_code-requires c =
 
 pub returns-in-Header : goal.returns-in-Header
 returns-in-Header c =
-    takes_one _ _ _ _ _ c.in-Header.is _ _ c.requires.i_in_bounds c.took_header.result (c.took_header.ensures.is _ refl) _ c.one.ensures
+    takes_one _ _ _ _ _ c.in-Header.is _ _ c.requires.i_in_bounds c.took_header.result (c.took_header.ensures.is _ refl) _ c.by_one.ensures
 
 pub returns-in-Code : goal.returns-in-Code
 returns-in-Code c =
@@ -24,4 +24,4 @@ returns-in-Code c =
 
 pub returns-in-Ack : goal.returns-in-Ack
 returns-in-Ack c =
-    takes_one _ _ _ _ _ c.in-Ack.is _ _ c.requires.i_in_bounds c.took_ack.result (c.took_ack.ensures.is _ _) _ c.one-in-Ack.ensures
+    takes_one _ _ _ _ _ c.in-Ack.is _ _ c.requires.i_in_bounds c.took_ack.result (c.took_ack.ensures.is _ _) _ c.by_one-in-Ack.ensures

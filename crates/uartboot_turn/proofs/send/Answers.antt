@@ -17,10 +17,10 @@ pub send_answer-requires : goal.send_answer-requires
 send_answer-requires c = let h = rw c.in-Answer.is at c.requires.ready_to in (h.step_sound.1, h.step_sound.0.in_work, c.requires.j_in_bounds)
 
 pub returns-in-Byte : goal.returns-in-Byte
-returns-in-Byte c = record { is = λ step so. sends-one _ _ _ step _ _ ((rw c.in-Byte.is at so).is _ _) _ _ c.requires.j_in_bounds _ (rw c.to.ensures refl) _ c.one.ensures }
+returns-in-Byte c = record { is = λ step so. sends-one _ _ _ step _ _ ((rw c.in-Byte.is at so).is _ _) _ _ c.requires.j_in_bounds _ (rw c.to.ensures refl) _ c.by_one.ensures }
 
 pub returns-in-Acceptance : goal.returns-in-Acceptance
-returns-in-Acceptance c = record { is = λ step so. sends-one _ _ _ step _ _ (rw (rw c.in-Acceptance.is at so) refl) _ _ c.requires.j_in_bounds _ c.accept.ensures _ c.one-in-Acceptance.ensures }
+returns-in-Acceptance c = record { is = λ step so. sends-one _ _ _ step _ _ (rw (rw c.in-Acceptance.is at so) refl) _ _ c.requires.j_in_bounds _ c.accept.ensures _ c.by_one-in-Acceptance.ensures }
 
 pub returns-in-Crc : goal.returns-in-Crc
 returns-in-Crc c = record { is = λ step so. rw (rw c.in-Crc.is at so) (c.send_crc.ensures.is _ _) }
