@@ -13,10 +13,12 @@ impl Register for u16 {
 
     const START: u16 = 0xFFFF;
 
+    #[tactic(auto, unfolding(crate::specs::Register::placed))]
     fn with_byte(self, byte: u8) -> u16 {
         self ^ ((byte as u16) << 8)
     }
 
+    #[tactic(auto, unfolding(crate::specs::Register::after_bit, crate::specs::Register::leaving, crate::specs::Register::moved))]
     fn after_bit(self) -> u16 {
         if self < 0x8000 {
             self << 1

@@ -16,10 +16,12 @@ impl Register for u32 {
 
     const START: u32 = 0xFFFF_FFFF;
 
+    #[tactic(auto, unfolding(crate::specs::Register::placed))]
     fn with_byte(self, byte: u8) -> u32 {
         self ^ byte as u32
     }
 
+    #[tactic(auto, unfolding(crate::specs::Register::after_bit, crate::specs::Register::leaving, crate::specs::Register::moved))]
     fn after_bit(self) -> u32 {
         if self % 2 == 0 {
             self >> 1

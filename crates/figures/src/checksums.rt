@@ -23,7 +23,10 @@ fn whole(rt: &impl Print, bytes: &[u8], name: &[u8]) -> io::Result<()> {
 fn of_parts<R: Register>(bytes: &[u8], cut: usize) -> R
     requires { cut ≤ length bytes.now }
 {
-    R::START.after(&bytes[..cut]).after(&bytes[cut..]).finished()
+    R::START
+        .after(&bytes[..cut])
+        .after(&bytes[cut..])
+        .finished()
 }
 
 fn in_parts(rt: &impl Print, bytes: &[u8], cut: usize, name: &[u8]) -> io::Result<()>
