@@ -13,6 +13,7 @@ pub mod Doing
 pub mod Repeats
 pub mod Acknowledgements
 pub mod Bulks
+pub mod WordSends
 pub mod Turns
 pub mod Reaches
 pub mod Leavings

@@ -5,6 +5,7 @@ ghost use Rattle.std.specs.Prelude.{◌≡◌, ◌+◌, ◌≤◌};
 ghost use Rattle.machine.specs.Session.{start_record, refused_report};
 
 pub mod step;
+pub mod word;
 pub mod words;
 
 // The number given for an unsound record.
