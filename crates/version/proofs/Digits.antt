@@ -174,4 +174,4 @@ module _ (field : List ℕ) (start : ℕ) where
         pub reading-large : largest < longer → decimal_at field start ≡ None
         reading-large h = read.rest ∙ rw here (large-digit (eqb start place) v place byte later read.none h)
 
-pub ruleset readings = (reading-none, reading-all, reading-other, reading-more, reading-zero, reading-large)
+pub ruleset readings = (reading-none, reading-all, reading-other, reading-zero, reading-large)
