@@ -35,9 +35,6 @@ pub const ENTRY_HEAD: usize = 3;
 fn has_mark(file: &[u8]) -> bool
     ensures { result ≡ is_front mark file.now }
 {
-    if file.len() < MARK.len() {
-        return false;
-    }
     is_front(&MARK, file)
 }
 
