@@ -4,7 +4,7 @@ ghost use Rattle.numbers.specs.Number.{number_at};
 ghost use Rattle.command.specs.Payload.{address_at, offset_at, command_of, Carried};
 
 use numbers::number_at;
-use opcodes::{Opcode, data_place};
+use opcodes::Opcode;
 use wire::unit::{FlashOffset, RamAddress};
 
 // A command with its numbers. For Write and Direct write the last one counts the data, which are in the work buffer after the payload's
@@ -45,12 +45,13 @@ fn count_at(work: &[u8], place: usize) -> u32
 }
 
 // The command that a payload of `count` bytes at the front of the work buffer says.
+#[tactic(auto, using(crate::proofs::Carrieds::long_enough))]
 pub fn command_of(opcode: Opcode, count: u32, work: &[u8]) -> Command
     requires { Carried opcode count (length work.now) }
     ensures { result ≡ command_of opcode count work.now }
 {
     match opcode {
-        Opcode::Write => Command::Write(address_at(work, 0), count - data_place(opcode)),
+        Opcode::Write => Command::Write(address_at(work, 0), count - opcode.data_place()),
         Opcode::Read => Command::Read(address_at(work, 0), count_at(work, 4)),
         Opcode::Copy => Command::Copy(address_at(work, 0), count_at(work, 4), offset_at(work, 6)),
         Opcode::Erase => Command::Erase(offset_at(work, 0), number_at::<4>(work, 4)),
@@ -59,7 +60,7 @@ pub fn command_of(opcode: Opcode, count: u32, work: &[u8]) -> Command
         Opcode::Version => Command::Version,
         Opcode::ChipErase => Command::ChipErase,
         Opcode::DirectWrite => {
-            Command::DirectWrite(work[0], offset_at(work, 1), count - data_place(opcode))
+            Command::DirectWrite(work[0], offset_at(work, 1), count - opcode.data_place())
         }
     }
 }
