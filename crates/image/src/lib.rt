@@ -34,7 +34,7 @@ pub fn is_marked(memory: &[u8], offset: usize, second: u8) -> bool
 }
 
 // The valid image at an offset of a memory; of a file, at 0.
-#[tactic(auto, unfolding(crate::specs::Valid::image_at, crate::specs::Valid::is_valid, crate::specs::Rule::first_broken, wire::specs::Range::place_in, wire::specs::Range::lies_in))]
+#[tactic(auto, using(crate::proofs::Headers::headers), unfolding(crate::specs::Valid::image_at, crate::specs::Valid::is_valid))]
 pub fn image_at(memory: &[u8], offset: usize) -> Option<Image>
     ensures { result ≡ image_at memory.now offset }
 {
