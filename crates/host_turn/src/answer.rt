@@ -45,7 +45,7 @@ fn crc_of(size: u32, answer: &[u8]) -> u16
     ensures { result ≡ answer_crc size answer.now }
 {
     let end = size as usize;
-    crc::crc16::crc_of(&answer[..end])
+    crc::crc_of::<u16>(&answer[..end])
 }
 
 // Sends the low byte of the answer's CRC as output byte j, and its high byte after that where there is room.
