@@ -6,8 +6,8 @@ use Rattle.image.specs.declared.Image.{Image}
 use Rattle.image.specs.Header.{id_at, size_at}
 use Rattle.image.specs.Valid.{is_valid, image_at}
 use Rattle.slot.specs.Id.{is_newer}
-use Rattle.slot.specs.Product.{no_image, first_offset, second_offset, product_at}
-use Rattle.slot.specs.Slot.{chosen, refused, select_of}
+use Rattle.slot.specs.Product.{first_offset, second_offset, product_at}
+use Rattle.slot.specs.Slot.{chosen, no_image, refused, select_of}
 use Rattle.slot.specs.Refusal.{RefusedExactly}
 
 -- an image by whether it is valid

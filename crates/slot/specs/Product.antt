@@ -7,7 +7,7 @@ use Rattle.wire.specs.Length.{is_flash_length, bad_flash}
 use Rattle.image.specs.Header.{is_marked}
 use Rattle.slot.specs.declared.product.Product.{Product}
 use Rattle.slot.specs.declared.refused.Refusal.{Refusal}
-use Rattle.slot.specs.declared.refused.Refusal.TheVariants.{BadFlash, NoHeader, WrongMark, NoImage}
+use Rattle.slot.specs.declared.refused.Refusal.TheVariants.{BadFlash, NoHeader, WrongMark}
 
 -- the numbers given for a product header that doesn't lie wholly in the flash, and for a wrong mark
 abbrev pub no_header : ℕ
@@ -15,17 +15,6 @@ no_header = 51
 
 abbrev pub wrong_mark : ℕ
 wrong_mark = 52
-
--- the number given for no valid image
-abbrev pub no_image : ℕ
-no_image = 53
-
--- the number of a refusal, of the product header's or of the slot's
-abbrev pub refusal_number : Refusal → ℕ
-refusal_number BadFlash = bad_flash
-refusal_number NoHeader = no_header
-refusal_number WrongMark = wrong_mark
-refusal_number NoImage = no_image
 
 -- the product header, 12 bytes: mark 70 52, a version of 2 bytes, two image offsets of 4; the version is not tested
 abbrev pub product_length : ℕ

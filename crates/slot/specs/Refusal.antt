@@ -4,8 +4,8 @@
 use Rattle.std.specs.Prelude.{◌≡◌, ℕ, true, false, ◌↔◌, List, length}
 use Rattle.wire.specs.Length.{is_flash_length}
 use Rattle.image.specs.Valid.{is_valid}
-use Rattle.slot.specs.Product.{no_image, product_inside, product_marked, first_offset, second_offset}
-use Rattle.slot.specs.Slot.{refused, select_of}
+use Rattle.slot.specs.Product.{product_inside, product_marked, first_offset, second_offset}
+use Rattle.slot.specs.Slot.{no_image, refused, select_of}
 
 abbrev pub NeitherValid : (flash : List ℕ) (offset : ℕ) → Type 0
 NeitherValid flash offset = (is_valid flash (first_offset flash offset) ≡ false) × (is_valid flash (second_offset flash offset) ≡ false)

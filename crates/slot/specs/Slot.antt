@@ -1,13 +1,26 @@
 -- The slot that will start (rules, 10.2), or its refusal with 3, 51, 52 or 53 (rules, 2.3).
 -- Assumes nothing.
 use Rattle.std.specs.Prelude.{ℕ, Option, Some, None, Result, Ok, Err, cond, List}
+use Rattle.wire.specs.Length.{bad_flash}
 use Rattle.image.specs.declared.Image.{Image}
 use Rattle.image.specs.Valid.{image_at}
 use Rattle.slot.specs.declared.product.Product.{Product}
 use Rattle.slot.specs.declared.refused.Refusal.{Refusal}
+use Rattle.slot.specs.declared.refused.Refusal.TheVariants.{BadFlash, NoHeader, WrongMark, NoImage}
 use Rattle.slot.specs.declared.Selected.{Selected}
 use Rattle.slot.specs.Id.{is_newer}
-use Rattle.slot.specs.Product.{no_image, refusal_number, product_at}
+use Rattle.slot.specs.Product.{no_header, wrong_mark, product_at}
+
+-- the number given for no valid image
+abbrev pub no_image : ℕ
+no_image = 53
+
+-- the number of a refusal, of the product header's or of the slot's
+abbrev pub refusal_number : Refusal → ℕ
+refusal_number BadFlash = bad_flash
+refusal_number NoHeader = no_header
+refusal_number WrongMark = wrong_mark
+refusal_number NoImage = no_image
 
 abbrev pub refused : (number : ℕ) → Selected
 refused number = record { number = number; slot = 0 }

@@ -1,6 +1,6 @@
 // Why no slot starts, and the number given for that.
 ghost use Rattle.std.specs.Prelude.{◌≡◌};
-ghost use Rattle.slot.specs.Product.{refusal_number};
+ghost use Rattle.slot.specs.Slot.{refusal_number};
 
 use wire::length::BAD_FLASH;
 
