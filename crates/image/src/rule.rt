@@ -5,7 +5,7 @@ ghost use Rattle.image.specs.Rule.{own_number, rule_number, first_broken};
 
 use crate::{HEADER, is_marked};
 use crc::crc_of;
-use numbers::number32_at;
+use numbers::number_at;
 
 // The mark of an image header is 70 and this byte.
 pub const IMAGE_MARK: u8 = 0x51;
@@ -66,7 +66,7 @@ pub fn first_broken(memory: &[u8], offset: usize) -> Option<Rule>
     if memory[offset + 2] != VALID_FLAG {
         return Some(Rule::Flag);
     }
-    let size = number32_at(memory, offset + 4) as usize;
+    let size = number_at::<4>(memory, offset + 4) as usize;
     if size == 0 || LARGEST < size {
         return Some(Rule::Size);
     }
@@ -77,7 +77,7 @@ pub fn first_broken(memory: &[u8], offset: usize) -> Option<Rule>
     if memory[offset + 32] != 0 {
         return Some(Rule::Encrypted);
     }
-    if crc_of::<u32>(&memory[code..code + size]) != number32_at(memory, offset + 8) {
+    if crc_of::<u32>(&memory[code..code + size]) != number_at::<4>(memory, offset + 8) {
         return Some(Rule::Crc);
     }
     None

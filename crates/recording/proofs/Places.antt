@@ -4,22 +4,14 @@ use Prim.Native.Nat.{ℕ, ◌+◌, ◌-◌, ◌≤◌, ◌<◌}
 use native.Mathlib.Omega.{arith}
 use native.Mathlib.Nat.{add-zero}
 use mathlib.Core.Path.{◌≡◌, refl, ap, ◌∙◌}
-use mathlib.Core.Bool.{true, false, and-false}
-use mathlib.Core.List.{List, [], ◌∷◌}
-use lib.Dec.{eqb}
+use mathlib.Core.Bool.{true, false}
+use mathlib.Core.List.{List, []}
 use lib.ListN.{length, get_or, drop, length-drop, drop_of_length-le}
 use lib.Seq.{get_or-drop, drop-drop}
 use borrow.Author.Tests.{le-leb, lt-leb}
-use Rattle.memory.specs.Compare.{is_front}
 use Rattle.recording.specs.Form.{unknown_kind, cut_short, is_kind, entry_head, kind_in, size_in, past_entry, entry_fault}
 use Rattle.recording.specs.Recording.{reads, entries_at, entries_of}
 use Rattle.recording.proofs.Entries.{whole-entry}
-
--- what is too short has not all bytes of a front
-pub short-front : (bytes part : List ℕ) → length part < length bytes → is_front bytes part ≡ false
-short-front [] part h = absurd (let z : ⊥ = omega arith in z)
-short-front (byte ∷ bytes) [] h = refl
-short-front (byte ∷ bytes) (there ∷ part) h = rw (short-front bytes part (omega arith)) (and-false (eqb there byte))
 
 -- there are no entries at the end
 pub none-at-end : (file : List ℕ) (place : ℕ) → length file ≤ place → entries_of (drop place file) ≡ reads []

@@ -5,7 +5,7 @@ ghost use Rattle.recording.specs.Form.{mark, head_fault, is_kind, size_in, entry
 ghost use Rattle.recording.specs.Recording.{recording_of, fault_of};
 
 use memory::compare::is_front;
-use numbers::{number16_at, read16};
+use numbers::{number_at, read_at};
 
 // The numbers given for what is wrong with a file.
 const BAD_MARK: u32 = 81;
@@ -35,9 +35,6 @@ pub const ENTRY_HEAD: usize = 3;
 fn has_mark(file: &[u8]) -> bool
     ensures { result ≡ is_front mark file.now }
 {
-    if file.len() < MARK.len() {
-        return false;
-    }
     is_front(&MARK, file)
 }
 
@@ -48,7 +45,7 @@ fn head_fault(file: &[u8]) -> u32
     if !has_mark(file) {
         return BAD_MARK;
     }
-    match read16(file, MARK.len()) {
+    match read_at::<2>(file, MARK.len()) {
         Some(version) => {
             if version == VERSION {
                 return 0;
@@ -73,7 +70,7 @@ pub fn size_at(file: &[u8], place: usize) -> usize
     requires { place + entry_head ≤ length file.now }
     ensures { result ≡ size_in (drop place file.now) }
 {
-    number16_at(file, place + 1) as usize
+    number_at::<2>(file, place + 1) as usize
 }
 
 // What is wrong with the entry that begins at a place; 0 where nothing is.

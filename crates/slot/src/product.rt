@@ -4,7 +4,7 @@ ghost use Rattle.slot.specs.Product.{product_at};
 
 use crate::refused::Refusal;
 use image::is_marked;
-use numbers::number32_at;
+use numbers::number_at;
 use wire::length::is_flash_length;
 use wire::unit::FlashOffset;
 
@@ -35,7 +35,7 @@ pub fn product_at(flash: &[u8], offset: u32) -> Result<Product, Refusal>
     if !is_marked(flash, start, PRODUCT_MARK) {
         return Err(Refusal::WrongMark);
     }
-    let first = number32_at(flash, start + 4);
-    let second = number32_at(flash, start + 8);
+    let first = number_at::<4>(flash, start + 4);
+    let second = number_at::<4>(flash, start + 8);
     Ok(Product { first, second })
 }

@@ -11,12 +11,12 @@ returns-then-not-has_mark c = simp (sym c.has_mark.ensures ∙ c.if-not-has_mark
 
 pub returns-then-version-eq-VERSION : goal.returns-then-version-eq-VERSION
 unfolding head_fault
-returns-then-version-eq-VERSION c = simp (sym c.has_mark.ensures ∙ c.if-not-has_mark.false, sym c.read16.ensures ∙ c.in-Some.is, eq-eqb _ _ c.if-version-eq-VERSION.true)
+returns-then-version-eq-VERSION c = simp (sym c.has_mark.ensures ∙ c.if-not-has_mark.false, sym c.read_at.ensures ∙ c.in-Some.is, eq-eqb _ _ c.if-version-eq-VERSION.true)
 
 pub returns-else-version-eq-VERSION : goal.returns-else-version-eq-VERSION
 unfolding head_fault
-returns-else-version-eq-VERSION c = simp (sym c.has_mark.ensures ∙ c.if-not-has_mark.false, sym c.read16.ensures ∙ c.in-Some.is, ne_eqb _ _ c.if-version-eq-VERSION.false)
+returns-else-version-eq-VERSION c = simp (sym c.has_mark.ensures ∙ c.if-not-has_mark.false, sym c.read_at.ensures ∙ c.in-Some.is, ne_eqb _ _ c.if-version-eq-VERSION.false)
 
 pub returns-in-None : goal.returns-in-None
 unfolding head_fault
-returns-in-None c = simp (sym c.has_mark.ensures ∙ c.if-not-has_mark.false, sym c.read16.ensures ∙ c.in-None.is)
+returns-in-None c = simp (sym c.has_mark.ensures ∙ c.if-not-has_mark.false, sym c.read_at.ensures ∙ c.in-None.is)

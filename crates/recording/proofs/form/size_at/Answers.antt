@@ -7,4 +7,4 @@ use Rattle.recording.proofs.form.size_at.Goals as goal
 
 pub returns : goal.returns
 unfolding size_in number_at
-returns c = rw (drop-drop 1 c.args.place c.args.file.now) c.number16_at.ensures
+returns c = rw (drop-drop 1 c.args.place c.args.file.now) c.number_at.ensures
