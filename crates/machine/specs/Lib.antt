@@ -11,6 +11,7 @@ pub mod Cuts
 pub mod Words
 pub mod Session
 pub mod Loop
+pub mod Stop
 pub mod Listing
 pub mod SessionLaws
 pub mod SessionClaim

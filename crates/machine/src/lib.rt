@@ -1,10 +1,11 @@
 // Sessions as deterministic machines: what a caller keeps of one between calls, and what a call reports.
 #![tactic(auto)]
 
-ghost use Rattle.std.specs.Prelude.{◌≡◌, ◌+◌, ◌≤◌};
+ghost use Rattle.std.specs.Prelude.{◌≡◌};
 ghost use Rattle.machine.specs.Session.{start_record, refused_report};
 
 pub mod step;
+pub mod stop;
 pub mod words;
 
 // The number given for an unsound record.
@@ -60,12 +61,4 @@ pub fn start(kind: u32) -> Record
         reason: 0,
         spare: 0,
     }
-}
-
-// `count` bytes further on. That this lies within `end` shows that the sum doesn't wrap.
-pub fn advance(place: usize, count: usize, end: usize) -> usize
-    requires { place + count ≤ end }
-    ensures { result ≡ place + count }
-{
-    place + count
 }
