@@ -21,11 +21,7 @@ pub struct Numbers {
 fn fields(phase: u32, place: u32, held: u32) -> Numbers
     ensures { result ≡ record { phase = phase; place = place; held = held } }
 {
-    Numbers {
-        phase: phase,
-        place: place,
-        held: held,
-    }
+    Numbers { phase, place, held }
 }
 
 fn numbers_of(step: Step) -> Numbers
@@ -65,7 +61,7 @@ pub fn encode(step: Step, reason: u32) -> Record
         length: 0,
         place: numbers.place,
         held: numbers.held,
-        reason: reason,
+        reason,
         spare: 0,
     }
 }
@@ -161,14 +157,13 @@ fn places_of(x: Exchange, phase: u32) -> u32
 }
 
 // What a record stands for, with this command.
+#[tactic(auto, unfolding(crate::specs::Record::decoded_of))]
 pub fn decode(x: Exchange, session: Record) -> Option<Step>
     ensures { result ≡ decoded_of x session }
 {
     if session.kind != Host::KIND {
         return None;
     }
-    if session.place < places_of(x, session.phase) {
-        return Some(step_of(fields(session.phase, session.place, session.held)));
-    }
-    None
+    let n = fields(session.phase, session.place, session.held);
+    (n.place < places_of(x, n.phase)).then_some(step_of(n))
 }

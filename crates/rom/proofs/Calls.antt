@@ -28,7 +28,7 @@ module _ (session : Record) (input reply ram : List ℕ) (r : Report) where
     pub bad-record : decoded_of (length ram) session ≡ None → r ≡ refused_report bad_record session → given_back r reply ram ≡ result_of rom session ram input reply
     bad-record e q = refused-record rom session ram input reply r (rw fits refl) (ap (λ (d : Option (Kind × Step)). read_of d session.reason ram) e) q
 
-    pub good : (kind : Kind) (s : Step) → decoded_of (length ram) session ≡ Some kind s → (taken sent stands : ℕ) (last : Step) (reason : ℕ) (reply' ram' : List ℕ) →
+    pub good : (kind : Kind) (s : Step) → decoded_of (length ram) session ≡ Some (kind, s) → (taken sent stands : ℕ) (last : Step) (reason : ℕ) (reply' ram' : List ℕ) →
         Acted receiver (state kind s session.reason ram) input reply taken sent stands (state kind last reason ram') reply' →
         r ≡ record { number = 0; standing = stands; taken = taken; sent = sent; session = written kind last reason } →
         given_back r reply' ram' ≡ result_of rom session ram input reply

@@ -1,6 +1,6 @@
 -- A record that is read stands for a sound step, and a sound step's record is read as that step.
 -- Assumes nothing.
-use Rattle.std.specs.Prelude.{Option, Some, None}
+use Rattle.std.specs.Prelude.{Option, Some, None, Result, Ok, Err}
 use Prim.Native.Nat.{ℕ, ◌<◌}
 use native.Mathlib.Omega.{arith}
 use mathlib.Core.Path.{◌≡◌, refl, ap, subst}
@@ -9,6 +9,8 @@ use lib.Dec.{eqb, leb, ltb}
 use borrow.Author.Tests.{leb-true, ltb-true, eqb-false, le-leb, lt-ltb, ne_eqb}
 use Rattle.rom_flow.specs.declared.kind.Kind.{Kind}
 use Rattle.rom_flow.specs.declared.kind.Kind.TheVariants.{P, E}
+use Rattle.rom_flow.specs.declared.kind.UnknownKind.{UnknownKind}
+use Rattle.rom_flow.specs.Fresh.{kind_of}
 use Rattle.rom_flow.specs.declared.step.Step.{Step}
 use Rattle.rom_flow.specs.declared.step.Step.TheVariants.{SendStx, Header, SendAck, TakeCode, SendXor, TakeAck, SendNak, Running}
 use Rattle.rom_flow.specs.declared.step.HeaderStep.{HeaderStep}
@@ -17,7 +19,7 @@ use Rattle.rom_record.specs.declared.Numbers.{Numbers}
 use Rattle.wire.specs.Unit.{is_in_ram}
 use Rattle.wire.proofs.Tests.{in-cond}
 use Rattle.machine.specs.declared.Record.{Record}
-use Rattle.rom_record.specs.Record.{fields, header_fields, fields_of, written, sized, extended, places_of, phase_in, step_in, with_kind, decoded_of}
+use Rattle.rom_record.specs.Record.{fields, header_fields, fields_of, written, sized, extended, places_of, phase_in, step_in, with_kind, decoded_with, decoded_of}
 use Rattle.rom_flow.specs.Sound.{SoundHeader, SoundStep, Sized, Extends}
 
 abbrev InFound : Kind → ℕ → Option Step → Type 0
@@ -65,17 +67,16 @@ kind-in kind size (Some step) h = h
 kind-in kind size None h = tt
 
 -- a record that is read stands for a sound step
-pub decoded-sound : (size : ℕ) (r : Record) (kind : Kind) (s : Step) → decoded_of size r ≡ Some kind s → SoundStep kind size s
+pub decoded-sound : (size : ℕ) (r : Record) (kind : Kind) (s : Step) → decoded_of size r ≡ Some (kind, s) → SoundStep kind size s
 unfolding decoded_of
-decoded-sound size r kind s e = subst (λ (d : Option (Kind × Step)). InDecoded size d) e whole
+decoded-sound size r kind s e = subst (λ (d : Option (Kind × Step)). InDecoded size d) e (whole (kind_of r.kind))
   where
     n : Numbers
     n = fields r.phase r.length r.place r.held
 
-    whole : InDecoded size (cond (eqb r.kind 0) (with_kind P (step_in P size n)) (cond (eqb r.kind 1) (with_kind E (step_in E size n)) None))
-    whole =
-        in-cond (InDecoded size) (eqb r.kind 0) _ _ (λ e. kind-in P size (step_in P size n) (step-in P size n)) (λ e.
-        in-cond (InDecoded size) (eqb r.kind 1) _ _ (λ e. kind-in E size (step_in E size n) (step-in E size n)) (λ e. tt))
+    whole : (k : Result Kind UnknownKind) → InDecoded size (decoded_with size n k)
+    whole (Ok kind) = kind-in kind size (step_in kind size n) (step-in kind size n)
+    whole (Err unknown) = tt
 
 sized-back : (size n : ℕ) (s : Step) → Sized size n → sized size n s ≡ Some s
 sized-back size n s h = simp (ne_eqb n 0 (λ e. let z : ⊥ = omega (arith, h.0) in z), le-leb _ _ h.1)
@@ -106,7 +107,7 @@ step_back kind size SendNak h = refl
 step_back kind size (Running address) h = rw h refl
 
 -- and from its record
-pub reads_back : (kind : Kind) (size : ℕ) (s : Step) (reason : ℕ) → SoundStep kind size s → decoded_of size (written kind s reason) ≡ Some kind s
+pub reads_back : (kind : Kind) (size : ℕ) (s : Step) (reason : ℕ) → SoundStep kind size s → decoded_of size (written kind s reason) ≡ Some (kind, s)
 unfolding decoded_of written
 reads_back P size s reason h = ap (with_kind P) (step_back P size s h)
 reads_back E size s reason h = ap (with_kind E) (step_back E size s h)

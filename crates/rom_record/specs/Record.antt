@@ -1,16 +1,17 @@
 -- The receiver's record, and which ones are unsound (rules, 4.5). Numbers that a phase does not use are ignored when a record comes in,
 -- but for the place. They are 0 in every record that an accepted call hands out.
 -- Assumes nothing.
-use Rattle.std.specs.Prelude.{ℕ, cond, eqb, leb, ltb, Option, Some, None}
+use Rattle.std.specs.Prelude.{ℕ, cond, eqb, leb, ltb, Option, Some, None, Result, Ok, Err}
 use Rattle.wire.specs.Unit.{is_in_ram}
 use Rattle.machine.specs.declared.Record.{Record}
 use Rattle.rom_flow.specs.declared.kind.Kind.{Kind}
+use Rattle.rom_flow.specs.declared.kind.UnknownKind.{UnknownKind}
 use Rattle.rom_flow.specs.declared.kind.Kind.TheVariants.{P, E}
 use Rattle.rom_flow.specs.declared.step.Step.{Step}
 use Rattle.rom_flow.specs.declared.step.Step.TheVariants.{SendStx, Header, SendAck, TakeCode, SendXor, TakeAck, SendNak, Running}
 use Rattle.rom_flow.specs.declared.step.HeaderStep.{HeaderStep}
 use Rattle.rom_flow.specs.declared.step.HeaderStep.TheVariants.{TakeSoh, TakeLow, TakeHigh, TakeExtendedLow, TakeExtendedHigh}
-use Rattle.rom_flow.specs.Fresh.{kind_number}
+use Rattle.rom_flow.specs.Fresh.{kind_number, kind_of}
 use Rattle.rom_record.specs.declared.Numbers.{Numbers}
 
 abbrev pub fields : (phase total place held : ℕ) → Numbers
@@ -89,10 +90,10 @@ abbrev pub with_kind : Kind → Option Step → Option (Kind × Step)
 with_kind kind (Some step) = Some (kind, step)
 with_kind kind None = None
 
+abbrev pub decoded_with : (size : ℕ) → Numbers → Result Kind UnknownKind → Option (Kind × Step)
+decoded_with size n (Ok kind) = with_kind kind (step_in kind size n)
+decoded_with size n (Err unknown) = None
+
 -- what a record stands for
 unfoldable pub decoded_of : (size : ℕ) → Record → Option (Kind × Step)
-decoded_of size r =
-    let n = fields r.phase r.length r.place r.held in
-    cond (eqb r.kind 0) (with_kind P (step_in P size n))
-    (cond (eqb r.kind 1) (with_kind E (step_in E size n))
-    None)
+decoded_of size r = decoded_with size (fields r.phase r.length r.place r.held) (kind_of r.kind)

@@ -2,11 +2,10 @@
 #![tactic(auto)]
 
 ghost use Rattle.std.specs.Prelude.{◌≡◌};
-ghost use Rattle.rom_flow.specs.Fresh.{kind_number};
-ghost use Rattle.rom_record.specs.Record.{header_fields, fields_of, written, sized, extended, running_in, places_of, phase_in, step_in, with_kind, decoded_of};
+ghost use Rattle.rom_record.specs.Record.{header_fields, fields_of, written, sized, extended, running_in, places_of, phase_in, step_in, decoded_of};
 
 use machine::Record;
-use rom_flow::kind::{Kind, Receiver};
+use rom_flow::kind::Kind;
 use rom_flow::step::{HeaderStep, Step};
 use wire::unit::RamAddress;
 
@@ -23,10 +22,10 @@ fn fields(phase: u32, total: u32, place: u32, held: u32) -> Numbers
     ensures { result ≡ record { phase = phase; length = total; place = place; held = held } }
 {
     Numbers {
-        phase: phase,
+        phase,
         length: total,
-        place: place,
-        held: held,
+        place,
+        held,
     }
 }
 
@@ -57,28 +56,19 @@ fn fields_of(step: Step) -> Numbers
     }
 }
 
-fn kind_number(kind: Kind) -> u32
-    ensures { result ≡ kind_number kind }
-{
-    match kind {
-        Kind::P => Receiver::P,
-        Kind::E => Receiver::E,
-    }
-}
-
 // The record of a step.
 pub fn encode(kind: Kind, step: Step, reason: u32) -> Record
     ensures { result ≡ written kind step reason }
 {
     let numbers = fields_of(step);
     Record {
-        kind: kind_number(kind),
+        kind: kind.into(),
         phase: numbers.phase,
         opcode: 0,
         length: numbers.length,
         place: numbers.place,
         held: numbers.held,
-        reason: reason,
+        reason,
         spare: 0,
     }
 }
@@ -90,22 +80,15 @@ fn sized(size: u32, total: u32, step: Step) -> Option<Step>
     if total == 0 {
         return None;
     }
-    if total <= size {
-        Some(step)
-    } else {
-        None
-    }
+    (total <= size).then_some(step)
 }
 
 // Code runs at an address in RAM.
 fn running_in(size: u32, address: u32) -> Option<Step>
     ensures { result ≡ running_in size address }
 {
-    if RamAddress(address).is_in(size as usize) {
-        Some(Step::Running(RamAddress(address)))
-    } else {
-        None
-    }
+    let address = RamAddress(address);
+    address.is_in(size as usize).then_some(Step::Running(address))
 }
 
 // A step that only kind E has.
@@ -161,24 +144,15 @@ fn step_in(kind: Kind, size: u32, numbers: Numbers) -> Option<Step>
     }
 }
 
-fn with_kind(kind: Kind, found: Option<Step>) -> Option<(Kind, Step)>
-    ensures { result ≡ with_kind kind found }
-{
-    match found {
-        Some(step) => Some((kind, step)),
-        None => None,
-    }
-}
-
 // What a record stands for, with a RAM of `size` bytes.
+#[tactic(auto, unfolding(crate::specs::Record::decoded_of))]
 pub fn decode(size: u32, session: Record) -> Option<(Kind, Step)>
     ensures { result ≡ decoded_of size session }
 {
+    let Ok(kind) = Kind::try_from(session.kind) else {
+        return None;
+    };
     let numbers = fields(session.phase, session.length, session.place, session.held);
-    let kind = session.kind;
-    match kind {
-        0 => with_kind(Kind::P, step_in(Kind::P, size, numbers)),
-        1 => with_kind(Kind::E, step_in(Kind::E, size, numbers)),
-        _ => None,
-    }
+    let step = step_in(kind, size, numbers)?;
+    Some((kind, step))
 }

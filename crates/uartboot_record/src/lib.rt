@@ -24,11 +24,11 @@ fn fields(phase: u32, opcode: u32, size: u32, place: u32, held: u32) -> Numbers
     ensures { result ≡ fields phase opcode size place held }
 {
     Numbers {
-        phase: phase,
-        opcode: opcode,
+        phase,
+        opcode,
         length: size,
-        place: place,
-        held: held,
+        place,
+        held,
     }
 }
 
@@ -95,7 +95,7 @@ pub fn encode(step: Step, reason: u32) -> Record
         length: n.length,
         place: n.place,
         held: n.held,
-        reason: reason,
+        reason,
         spare: 0,
     }
 }
@@ -197,11 +197,8 @@ fn running_in(ram: usize, opcode: u32, address: u32) -> Option<Step>
     if opcode != number_of(Opcode::Run) {
         return None;
     }
-    if RamAddress(address).is_in(ram) {
-        Some(Step::Running(RamAddress(address)))
-    } else {
-        None
-    }
+    let address = RamAddress(address);
+    address.is_in(ram).then_some(Step::Running(address))
 }
 
 // The step of a phase, whatever the place.
@@ -221,9 +218,7 @@ fn phase_in(ram: usize, work: usize, n: Numbers) -> Option<Step>
     if 17 < n.phase {
         return None;
     }
-    let Some(opcode) = opcode_of(n.opcode) else {
-        return None;
-    };
+    let opcode = opcode_of(n.opcode)?;
     if n.phase < 11 {
         return command_in(work, opcode, n);
     }

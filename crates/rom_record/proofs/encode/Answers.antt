@@ -6,4 +6,4 @@ use Rattle.rom_record.proofs.encode.Goals as goal
 
 pub returns : goal.returns
 unfolding written
-returns c = rw (c.kind_number.ensures, c.fields_of-numbers.ensures) refl
+returns c = rw (c.into.ensures, c.fields_of-numbers.ensures) refl

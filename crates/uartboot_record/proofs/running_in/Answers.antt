@@ -6,17 +6,3 @@ use Rattle.uartboot_record.proofs.running_in.Goals as goal
 
 pub returns-then-opcode-number_of : goal.returns-then-opcode-number_of
 returns-then-opcode-number_of c = simp (ne_eqb _ _ (λ e. c.if-opcode-number_of.true (e ∙ sym c.number_of.ensures)))
-
-pub returns-then-is_in : goal.returns-then-is_in
-returns-then-is_in c =
-    simp (
-      eq-eqb _ _ (c.if-opcode-number_of.false ∙ c.number_of.ensures),
-      sym c.is_in.ensures ∙ c.if-is_in.true,
-    )
-
-pub returns-else-is_in : goal.returns-else-is_in
-returns-else-is_in c =
-    simp (
-      eq-eqb _ _ (c.if-opcode-number_of.false ∙ c.number_of.ensures),
-      sym c.is_in.ensures ∙ c.if-is_in.false,
-    )
