@@ -5,7 +5,6 @@ ghost use Rattle.std.specs.Prelude.{◌≡◌};
 ghost use Rattle.called.specs.Called.{called_of, words_after};
 
 use machine::Report;
-use machine::words::put;
 
 // A session call's report without its record, which C has in its eight words.
 #[repr(C)]
@@ -17,14 +16,16 @@ pub struct Called {
     pub sent: usize,
 }
 
-fn called_of(report: Report) -> Called
-    ensures { result ≡ called_of report }
-{
-    Called {
-        number: report.number,
-        standing: report.standing,
-        taken: report.taken,
-        sent: report.sent,
+impl From<Report> for Called {
+    ghost from_gives = { λ report called. called ≡ called_of report };
+
+    fn from(report: Report) -> Called {
+        Called {
+            number: report.number,
+            standing: report.standing,
+            taken: report.taken,
+            sent: report.sent,
+        }
     }
 }
 
@@ -33,9 +34,8 @@ pub fn hand_back(report: Report, words: &mut [u32; 8]) -> Called
     ensures value { result ≡ called_of report }
     ensures words_after { words.new ≡ words_after report words.old }
 {
-    if report.number != 0 {
-        return called_of(report);
+    if report.number == 0 {
+        *words = report.session.into();
     }
-    put(report.session, words);
-    called_of(report)
+    report.into()
 }

@@ -11,14 +11,14 @@ ghost use Rattle.called.specs.Called.{handed, handed_of};
 
 use called::{Called, hand_back};
 use host_flow::kind::Host;
-use machine::words::{put, record_of};
+use machine::Record;
 
 // A fresh record of a host.
 #[unsafe(no_mangle)]
 pub extern "C" fn und_host_fresh(words: &mut [u32; 8])
     ensures { words.new ≡ words_of fresh_record }
 {
-    put(Host::fresh(), words);
+    *words = Host::fresh().into();
 }
 
 // A call to a host.
@@ -33,7 +33,7 @@ pub extern "C" fn und_host_call(
 ) -> Called
     ensures { handed result words.new output.new (lent opcode payload.now answer.new) ≡ handed_of (result_of host_session (record_of words.old) (lent opcode payload.now answer.old) input.now output.old) }
 {
-    let old = *words;
-    let report = host::session::call(record_of(old), opcode, payload, input, output, answer);
+    let session = Record::from(*words);
+    let report = host::session::call(session, opcode, payload, input, output, answer);
     hand_back(report, words)
 }

@@ -9,7 +9,7 @@ ghost use Rattle.rom.specs.Session.{rom};
 ghost use Rattle.called.specs.Called.{handed, handed_of};
 
 use called::{Called, hand_back};
-use machine::words::{put, record_of};
+use machine::Record;
 use rom_flow::kind::Receiver;
 
 // A fresh record of a receiver: kind 0 is P, 1 is E; `und_rom_call` refuses any other.
@@ -17,7 +17,7 @@ use rom_flow::kind::Receiver;
 pub extern "C" fn und_rom_fresh(kind: u32, words: &mut [u32; 8])
     ensures { words.new ≡ words_of (fresh_record kind) }
 {
-    put(Receiver::fresh(kind), words);
+    *words = Receiver::fresh(kind).into();
 }
 
 // A call to a receiver.
@@ -30,7 +30,7 @@ pub extern "C" fn und_rom_call(
 ) -> Called
     ensures { handed result words.new reply.new ram.new ≡ handed_of (result_of rom (record_of words.old) ram.old input.now reply.old) }
 {
-    let old = *words;
-    let report = rom::session::call(record_of(old), input, reply, ram);
+    let session = Record::from(*words);
+    let report = rom::session::call(session, input, reply, ram);
     hand_back(report, words)
 }

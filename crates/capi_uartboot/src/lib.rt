@@ -10,7 +10,7 @@ ghost use Rattle.uartboot.specs.Session.{uartboot};
 ghost use Rattle.called.specs.Called.{handed, handed_of};
 
 use called::{Called, hand_back};
-use machine::words::{put, record_of};
+use machine::Record;
 use uartboot_flow::kind::Uartboot;
 
 // A fresh record of a uartboot session.
@@ -18,7 +18,7 @@ use uartboot_flow::kind::Uartboot;
 pub extern "C" fn und_uartboot_fresh(words: &mut [u32; 8])
     ensures { words.new ≡ words_of fresh_record }
 {
-    put(Uartboot::fresh(), words);
+    *words = Uartboot::fresh().into();
 }
 
 // A call to a uartboot session.
@@ -33,7 +33,7 @@ pub extern "C" fn und_uartboot_call(
 ) -> Called
     ensures { handed result words.new reply.new (memories ram.new flash.new work.new) ≡ handed_of (result_of uartboot (record_of words.old) (memories ram.old flash.old work.old) input.now reply.old) }
 {
-    let old = *words;
-    let report = uartboot::session::call(record_of(old), input, reply, ram, flash, work);
+    let session = Record::from(*words);
+    let report = uartboot::session::call(session, input, reply, ram, flash, work);
     hand_back(report, words)
 }

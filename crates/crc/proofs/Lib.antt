@@ -1,4 +1,1 @@
-pub mod Bit
-pub mod Turns
-pub mod Xor
 pub mod Join

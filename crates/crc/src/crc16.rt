@@ -1,48 +1,36 @@
 // CRC-16: the register of 16 bits goes high bit first.
-ghost use Rattle.std.specs.Prelude.{◌≡◌};
+ghost use Rattle.std.specs.Prelude.{refl};
 ghost use Rattle.crc.specs.Rule.{rule16};
-ghost use Rattle.crc.specs.Register.{after_bit, after_byte, after};
-ghost use Rattle.crc.specs.Crc.{crc_of};
 
-// The register with no byte taken.
-pub const START: u16 = 0xFFFF;
+use crate::Register;
 
-// One bit leaves the register.
-fn after_bit(register: u16) -> u16
-    ensures { result ≡ after_bit rule16 register }
-{
-    if register < 0x8000 {
-        register << 1
-    } else {
-        (register << 1) ^ 0x1021
+impl Register for u16 {
+    ghost rule = { rule16 };
+
+    ghost number = { λ register. register };
+
+    ghost START = { 0xFFFF };
+
+    const START: u16 = 0xFFFF;
+
+    #[tactic(auto, unfolding(crate::specs::Register::placed))]
+    fn with_byte(self, byte: u8) -> u16 {
+        self ^ ((byte as u16) << 8)
     }
-}
 
-// The register takes one byte.
-fn after_byte(register: u16, byte: u8) -> u16
-    ensures { result ≡ after_byte rule16 register byte }
-{
-    let mut q = register ^ ((byte as u16) << 8);
-    for _ in 0..8usize {
-        q = after_bit(q);
+    #[tactic(auto, unfolding(crate::specs::Register::after_bit, crate::specs::Register::leaving, crate::specs::Register::moved))]
+    fn after_bit(self) -> u16 {
+        if self < 0x8000 {
+            self << 1
+        } else {
+            (self << 1) ^ 0x1021
+        }
     }
-    q
-}
 
-// The register after some more bytes: where they come in parts, each part goes on from the register that the last one left.
-pub fn after(register: u16, bytes: &[u8]) -> u16
-    ensures { result ≡ after rule16 register bytes.now }
-{
-    let mut q = register;
-    for i in 0..bytes.len() {
-        q = after_byte(q, bytes[i]);
+    // There is no final change.
+    fn finished(self) -> u16 {
+        self
     }
-    q
-}
 
-// The CRC-16 of bytes.
-pub fn crc_of(bytes: &[u8]) -> u16
-    ensures { result ≡ crc_of rule16 bytes.now }
-{
-    after(START, bytes)
+    ghost starts = { refl };
 }

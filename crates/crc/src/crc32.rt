@@ -1,51 +1,38 @@
 // CRC-32: the register of 32 bits goes low bit first, and is inverted at the end.
-ghost use Rattle.std.specs.Prelude.{◌≡◌};
+ghost use Rattle.std.specs.Prelude.{refl};
 ghost use Rattle.crc.specs.Rule.{rule32};
-ghost use Rattle.crc.specs.Register.{after_bit, after_byte, after};
-ghost use Rattle.crc.specs.Crc.{crc_of};
 
-// The register with no byte taken.
-pub const START: u32 = 0xFFFF_FFFF;
+use crate::Register;
 
 // What the register is XORed with at the end.
-pub const FINAL: u32 = 0xFFFF_FFFF;
+const FINAL: u32 = 0xFFFF_FFFF;
 
-// One bit leaves the register.
-fn after_bit(register: u32) -> u32
-    ensures { result ≡ after_bit rule32 register }
-{
-    if register % 2 == 0 {
-        register >> 1
-    } else {
-        (register >> 1) ^ 0xEDB8_8320
+impl Register for u32 {
+    ghost rule = { rule32 };
+
+    ghost number = { λ register. register };
+
+    ghost START = { 0xFFFF_FFFF };
+
+    const START: u32 = 0xFFFF_FFFF;
+
+    #[tactic(auto, unfolding(crate::specs::Register::placed))]
+    fn with_byte(self, byte: u8) -> u32 {
+        self ^ byte as u32
     }
-}
 
-// The register takes one byte.
-fn after_byte(register: u32, byte: u8) -> u32
-    ensures { result ≡ after_byte rule32 register byte }
-{
-    let mut q = register ^ byte as u32;
-    for _ in 0..8usize {
-        q = after_bit(q);
+    #[tactic(auto, unfolding(crate::specs::Register::after_bit, crate::specs::Register::leaving, crate::specs::Register::moved))]
+    fn after_bit(self) -> u32 {
+        if self % 2 == 0 {
+            self >> 1
+        } else {
+            (self >> 1) ^ 0xEDB8_8320
+        }
     }
-    q
-}
 
-// The register after some more bytes: where they come in parts, each part goes on from the register that the last one left.
-pub fn after(register: u32, bytes: &[u8]) -> u32
-    ensures { result ≡ after rule32 register bytes.now }
-{
-    let mut q = register;
-    for i in 0..bytes.len() {
-        q = after_byte(q, bytes[i]);
+    fn finished(self) -> u32 {
+        self ^ FINAL
     }
-    q
-}
 
-// The CRC-32 of bytes.
-pub fn crc_of(bytes: &[u8]) -> u32
-    ensures { result ≡ crc_of rule32 bytes.now }
-{
-    after(START, bytes) ^ FINAL
+    ghost starts = { refl };
 }

@@ -1,7 +1,7 @@
 // CRC-16 and CRC-32: the check figures that catalogues print, bytes in two parts, and some kilobytes.
 ghost use Rattle.std.specs.Prelude.{◌≤◌, length};
 
-use crc::{crc16, crc32};
+use crc::{Register, crc_of};
 use show::{hex, text};
 use std::io;
 
@@ -16,16 +16,23 @@ fn line(rt: &impl Print, short: u16, long: u32, name: &[u8]) -> io::Result<()> {
 }
 
 fn whole(rt: &impl Print, bytes: &[u8], name: &[u8]) -> io::Result<()> {
-    line(rt, crc16::crc_of(bytes), crc32::crc_of(bytes), name)
+    line(rt, crc_of(bytes), crc_of(bytes), name)
 }
 
-// The same bytes in two parts, the second from `cut` on.
+// The CRC of the same bytes in two parts, the second from `cut` on.
+fn of_parts<R: Register>(bytes: &[u8], cut: usize) -> R
+    requires { cut ≤ length bytes.now }
+{
+    R::START
+        .after(&bytes[..cut])
+        .after(&bytes[cut..])
+        .finished()
+}
+
 fn in_parts(rt: &impl Print, bytes: &[u8], cut: usize, name: &[u8]) -> io::Result<()>
     requires { cut ≤ length bytes.now }
 {
-    let short = crc16::after(crc16::after(crc16::START, &bytes[0..cut]), &bytes[cut..]);
-    let long = crc32::after(crc32::after(crc32::START, &bytes[0..cut]), &bytes[cut..]);
-    line(rt, short, long ^ crc32::FINAL, name)
+    line(rt, of_parts(bytes, cut), of_parts(bytes, cut), name)
 }
 
 // 4,096 bytes that count from 0 to 255 again and again.

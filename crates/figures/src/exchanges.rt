@@ -1,5 +1,5 @@
 // Exchanges with a receiver and with uartboot, each in one call from a fresh record.
-use crc::crc32;
+use crc::crc_of;
 use machine::Report;
 use rom_flow::kind::Receiver;
 use show::{bytes, decimal, hex, text};
@@ -59,7 +59,7 @@ fn erase_second_sector(rt: &impl Print) -> io::Result<()> {
         &mut flash,
     )?;
     text(rt, b"the flash of 12288 bytes, which held 00: CRC-32 ")?;
-    hex(rt, crc32::crc_of(&flash) as u64, 8)?;
+    hex(rt, crc_of::<u32>(&flash) as u64, 8)?;
     text(
         rt,
         b", that of 4096 times 00, 4096 times FF, 4096 times 00\n",

@@ -6,7 +6,7 @@ ghost use Rattle.version.specs.Text.{field_length};
 ghost use Rattle.headers.specs.ProductHeader.{product_header_of};
 ghost use Rattle.headers.specs.ImageHeader.{refused, header_bytes, image_header_of};
 
-use crc::crc32::crc_of;
+use crc::crc_of;
 use image::rule::{IMAGE_MARK, LARGEST, VALID_FLAG};
 use image::{HEADER, MARK};
 use memory::store::lay;

@@ -7,13 +7,14 @@ use mathlib.Core.Path.{◌≡◌, refl}
 use mathlib.Core.List.{List, [], ◌∷◌}
 use lib.ListN.{length, set}
 use borrow.Author.Tests.{lt-ltb}
-use Rattle.numbers.specs.Number.{low_byte, high_byte}
+use Rattle.numbers.specs.Number.{high_byte}
 use Rattle.memory.specs.Copy.{Copied}
 use Rattle.machine.specs.Does.{takes}
 use Rattle.machine.specs.Steps.{Taken, Sent}
-use Rattle.machine.specs.Steps as steps
+use Rattle.machine.specs.Word.{word_sent}
+use Rattle.machine.specs.declared.step.Moved.{Moved}
 use Rattle.machine.proofs.Bulks.{all_taken, one-sent}
-use Rattle.machine.proofs.Repeats.{sends-length}
+use Rattle.machine.proofs.WordSends.{word-sends}
 use Rattle.host_command.specs.Exchange.{lent, awaited}
 use Rattle.host_flow.specs.declared.step.Step.{Step}
 use Rattle.host_flow.specs.declared.step.Step.TheVariants.{TakeAnswer, SendCrcLow, SendCrcHigh, TakeLastAck}
@@ -42,16 +43,13 @@ module _ (opcode reason : ℕ) (payload : List ℕ) (size : ℕ) where
         rw e (rw (lt-ltb place size inside) at (all_taken does due taken at size takes-next takes_all input i answer place fits count answer' inside h c))
 
     module _ (old : List ℕ) (j : ℕ) where
-      pub low-sent : (low : ℕ) → low ≡ low_byte (answer_crc size answer) → j < length old →
-          Sent host (state SendCrcLow reason (lent opcode payload answer)) j old 1 (state SendCrcHigh reason (lent opcode payload answer)) (set old j low)
-      low-sent low e h = one-sent does due taken old j _ _ low (rw (e, is) refl) h
-
       pub high-sent : (high : ℕ) → high ≡ high_byte (answer_crc size answer) → j < length old →
           Sent host (state SendCrcHigh reason (lent opcode payload answer)) j old 1 (state TakeLastAck reason (lent opcode payload answer)) (set old j high)
       high-sent high e h = one-sent does due taken old j _ _ high (rw (e, is) refl) h
 
-      pub crc-sent : (low high : ℕ) → low ≡ low_byte (answer_crc size answer) → high ≡ high_byte (answer_crc size answer) → j + 1 < length old →
-          Sent host (state SendCrcLow reason (lent opcode payload answer)) j old 2 (state TakeLastAck reason (lent opcode payload answer)) (set (set old j low) (j + 1) high)
-      crc-sent low high e f h =
-          let sent = (low-sent low e (omega arith)).sends in
-          record { some = omega arith; sends = rw (f, ← is) (steps.more sent refl refl (omega (arith, sends-length host sent))) }
+      pub crc-sent : (crc : ℕ) → crc ≡ answer_crc size answer → j < length old → (r : Moved Step) (output : List ℕ) →
+          (r, output) ≡ word_sent crc SendCrcHigh TakeLastAck reason j old →
+          Sent host (state SendCrcLow reason (lent opcode payload answer)) j old r.count (state r.step r.reason (lent opcode payload answer)) output
+      crc-sent crc e h r output f =
+          word-sends does due taken (λ step why. state step why (lent opcode payload answer)) old j (state SendCrcLow reason (lent opcode payload answer))
+          SendCrcHigh TakeLastAck crc reason (rw (e, is) refl) (rw (e, is) refl) h r output f

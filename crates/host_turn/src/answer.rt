@@ -5,9 +5,10 @@ ghost use Rattle.host_flow.specs.Flow.{answer_crc, collected};
 ghost use Rattle.host_flow.specs.Gives.{AnswerTaken, CrcSent};
 
 use host_flow::step::Step;
-use machine::step::Moved;
+use machine::step::{Moved, to};
+use machine::word::send_word;
 use memory::copy::copy_up_to;
-use numbers::{high_byte, low_byte};
+use numbers::high_byte;
 
 // The step once `count` of the answer's bytes are in.
 fn collected_step(size: u32, count: u32) -> Step
@@ -46,7 +47,7 @@ fn crc_of(size: u32, answer: &[u8]) -> u16
     ensures { result ≡ answer_crc size answer.now }
 {
     let end = size as usize;
-    crc::crc16::crc_of(&answer[..end])
+    crc::crc_of::<u16>(&answer[..end])
 }
 
 // Sends the low byte of the answer's CRC as output byte j, and its high byte after that where there is room.
@@ -55,21 +56,14 @@ pub fn send_crc(size: u32, reason: u32, answer: &[u8], output: &mut [u8], j: usi
     ensures { CrcSent Step.SendCrcLow size reason answer.now j output.old result output.new }
 {
     let crc = crc_of(size, answer);
-    output[j] = low_byte(crc as u32);
-    let next = j + 1;
-    if next == output.len() {
-        return Moved {
-            step: Step::SendCrcHigh,
-            reason: reason,
-            count: 1,
-        };
-    }
-    output[next] = high_byte(crc as u32);
-    Moved {
-        step: Step::TakeLastAck, // both bytes have gone
-        reason: reason,
-        count: 2,
-    }
+    send_word(
+        crc,
+        Step::SendCrcHigh,
+        Step::TakeLastAck, // both bytes have gone
+        reason,
+        output,
+        j,
+    )
 }
 
 // Sends the high byte of the answer's CRC as output byte j.
@@ -84,9 +78,5 @@ pub fn send_crc_high(
     ensures { CrcSent Step.SendCrcHigh size reason answer.now j output.old result output.new }
 {
     output[j] = high_byte(crc_of(size, answer) as u32);
-    Moved {
-        step: Step::TakeLastAck,
-        reason: reason,
-        count: 1,
-    }
+    to(Step::TakeLastAck, reason).by_one()
 }

@@ -33,7 +33,7 @@ pub fn took_crc_low(reason: u32, byte: u8) -> Progress<Step>
 pub fn took_crc_high(low: u32, reason: u32, byte: u8, payload: &[u8]) -> Progress<Step>
     ensures { GivesBeside payload.now result (λ c. crc_came reason c (paired low byte)) }
 {
-    if pair(low, byte) == (crc::crc16::crc_of(payload) as usize) {
+    if pair(low, byte) == (crc::crc_of::<u16>(payload) as usize) {
         to(Step::SendGo, reason)
     } else {
         to(Step::SendNak, DEVICE_CRC)

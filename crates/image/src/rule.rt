@@ -4,7 +4,7 @@ ghost use Rattle.image.specs.Header.{header_length};
 ghost use Rattle.image.specs.Rule.{rule_number, first_broken};
 
 use crate::{HEADER, is_marked};
-use crc::crc32::crc_of;
+use crc::crc_of;
 use numbers::number32_at;
 
 // The mark of an image header is 70 and this byte.
@@ -74,7 +74,7 @@ pub fn first_broken(memory: &[u8], offset: usize) -> Rule
     if memory[offset + 32] != 0 {
         return Rule::Encrypted;
     }
-    if crc_of(&memory[code..code + size]) != number32_at(memory, offset + 8) {
+    if crc_of::<u32>(&memory[code..code + size]) != number32_at(memory, offset + 8) {
         return Rule::Crc;
     }
     Rule::Nothing

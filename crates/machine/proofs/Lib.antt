@@ -8,12 +8,12 @@ pub mod Loops
 pub mod Lines
 pub mod Refusals
 pub mod Results
-pub mod Records
 pub mod Shapes
 pub mod Doing
 pub mod Repeats
 pub mod Acknowledgements
 pub mod Bulks
+pub mod WordSends
 pub mod Turns
 pub mod Reaches
 pub mod Leavings

@@ -9,6 +9,7 @@ pub mod Acknowledged
 pub mod Lawful
 pub mod Cuts
 pub mod Words
+pub mod Word
 pub mod Session
 pub mod Loop
 pub mod Stop

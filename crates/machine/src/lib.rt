@@ -6,6 +6,7 @@ ghost use Rattle.machine.specs.Session.{start_record, refused_report};
 
 pub mod step;
 pub mod stop;
+pub mod word;
 pub mod words;
 
 // The number given for an unsound record.
@@ -39,11 +40,11 @@ pub fn refused(number: u32, session: Record) -> Report
     ensures { result ≡ refused_report number session }
 {
     Report {
-        number: number,
+        number,
         standing: 0,
         taken: 0,
         sent: 0,
-        session: session,
+        session,
     }
 }
 
@@ -52,7 +53,7 @@ pub fn start(kind: u32) -> Record
     ensures { result ≡ start_record kind }
 {
     Record {
-        kind: kind,
+        kind,
         phase: 0,
         opcode: 0,
         length: 0,

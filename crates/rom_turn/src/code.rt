@@ -44,17 +44,12 @@ pub fn take_code(
 }
 
 // The XOR of the first bytes of the RAM.
+#[tactic(auto, using(crate::proofs::Xors::xors), unfolding(rom_flow::specs::Flow::xor_of))]
 pub fn xor_of(ram: &[u8], count: usize) -> u8
     requires { count ≤ length ram.now }
     ensures { result ≡ xor_of (take count ram.now) }
 {
-    let mut x: u8 = 0;
-    let mut i: usize = 0;
-    while i < count {
-        x = x ^ ram[i];
-        i += 1;
-    }
-    x
+    ram[..count].iter().fold(0, |x, &byte| x ^ byte)
 }
 
 // What the byte after the XOR does.

@@ -8,5 +8,5 @@ pub fn crc_of(count: u32, work: &[u8]) -> u16
     ensures { result ≡ crc16 count work.now }
 {
     let end = count as usize;
-    crc::crc16::crc_of(&work[..end])
+    crc::crc_of::<u16>(&work[..end])
 }

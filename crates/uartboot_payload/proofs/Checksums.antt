@@ -5,13 +5,15 @@ use native.Mathlib.Omega.{arith}
 use mathlib.Core.Path.{◌≡◌, refl}
 use mathlib.Core.List.{List}
 use lib.ListN.{length, set}
-use Rattle.numbers.specs.Number.{low_byte, high_byte}
+use Rattle.numbers.specs.Number.{high_byte}
 use Rattle.machine.specs.Steps.{Sent}
-use Rattle.machine.specs.Steps as steps
+use Rattle.machine.specs.Word.{word_sent}
+use Rattle.machine.specs.declared.step.Moved.{Moved}
 use Rattle.machine.proofs.Bulks.{send-one}
-use Rattle.machine.proofs.Repeats.{sends-length}
+use Rattle.machine.proofs.WordSends.{word-sends}
 use Rattle.opcodes.specs.declared.Opcode.{Opcode}
 use Rattle.memory.specs.Memories.{Memories}
+use Rattle.uartboot_flow.specs.declared.step.Step.{Step}
 use Rattle.uartboot_flow.specs.declared.step.Step.TheVariants.{Command}
 use Rattle.uartboot_flow.specs.declared.step.CommandStep.TheVariants.{SendCrcLow, SendCrcHigh, TakeGo}
 use Rattle.uartboot_flow.specs.State.{state}
@@ -20,16 +22,13 @@ use Rattle.uartboot_flow.specs.Due.{due}
 use Rattle.uartboot_flow.specs.Device.{device}
 
 module _ (opcode : Opcode) (size reason : ℕ) (m : Memories) (old : List ℕ) (j : ℕ) where
-  pub low-sent : (low : ℕ) → low ≡ low_byte (crc16 size m.work) → j < length old →
-      Sent device (state (Command opcode size SendCrcLow) reason m) j old 1 (state (Command opcode size SendCrcHigh) reason m) (set old j low)
-  low-sent low e h = send-one does due old j _ _ low (rw e refl) h
-
   pub high-sent : (high : ℕ) → high ≡ high_byte (crc16 size m.work) → j < length old →
       Sent device (state (Command opcode size SendCrcHigh) reason m) j old 1 (state (Command opcode size TakeGo) reason m) (set old j high)
   high-sent high e h = send-one does due old j _ _ high (rw e refl) h
 
-  pub crc-sent : (low high : ℕ) → low ≡ low_byte (crc16 size m.work) → high ≡ high_byte (crc16 size m.work) → j + 1 < length old →
-      Sent device (state (Command opcode size SendCrcLow) reason m) j old 2 (state (Command opcode size TakeGo) reason m) (set (set old j low) (j + 1) high)
-  crc-sent low high e f h =
-      let sent = (low-sent low e (omega arith)).sends in
-      record { some = omega arith; sends = rw f (steps.more sent refl refl (omega (arith, sends-length device sent))) }
+  pub crc-sent : (crc : ℕ) → crc ≡ crc16 size m.work → j < length old → (r : Moved Step) (reply : List ℕ) →
+      (r, reply) ≡ word_sent crc (Command opcode size SendCrcHigh) (Command opcode size TakeGo) reason j old →
+      Sent device (state (Command opcode size SendCrcLow) reason m) j old r.count (state r.step r.reason m) reply
+  crc-sent crc e h r reply f =
+      word-sends does due (λ s view. length view) (λ step why. state step why m) old j (state (Command opcode size SendCrcLow) reason m)
+      (Command opcode size SendCrcHigh) (Command opcode size TakeGo) crc reason (rw e refl) (rw e refl) h r reply f

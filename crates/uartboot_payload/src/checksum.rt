@@ -3,8 +3,9 @@ ghost use Rattle.std.specs.Prelude.{◌≤◌, ◌<◌, length};
 ghost use Rattle.uartboot_flow.specs.State.{state};
 ghost use Rattle.uartboot_flow.specs.Gives.{SentFrom};
 
-use machine::step::Moved;
-use numbers::{high_byte, low_byte};
+use machine::step::{Moved, to};
+use machine::word::send_word;
+use numbers::high_byte;
 use opcodes::Opcode;
 use uartboot_flow::checksum::crc_of;
 use uartboot_flow::step::{CommandStep, Step};
@@ -22,21 +23,14 @@ pub fn send_crc(
     ensures { SentFrom work.now (state (Step.Command opcode size CommandStep.SendCrcLow) reason) (state result.step result.reason) j reply.old result.count reply.new }
 {
     let crc = crc_of(size, work);
-    reply[j] = low_byte(crc as u32);
-    let next = j + 1;
-    if next == reply.len() {
-        return Moved {
-            step: Step::Command(opcode, size, CommandStep::SendCrcHigh),
-            reason: reason,
-            count: 1,
-        };
-    }
-    reply[next] = high_byte(crc as u32);
-    Moved {
-        step: Step::Command(opcode, size, CommandStep::TakeGo), // both bytes have gone
-        reason: reason,
-        count: 2,
-    }
+    send_word(
+        crc,
+        Step::Command(opcode, size, CommandStep::SendCrcHigh),
+        Step::Command(opcode, size, CommandStep::TakeGo), // both bytes have gone
+        reason,
+        reply,
+        j,
+    )
 }
 
 // Sends the high byte of the payload's CRC as reply byte j.
@@ -52,9 +46,5 @@ pub fn send_crc_high(
     ensures { SentFrom work.now (state (Step.Command opcode size CommandStep.SendCrcHigh) reason) (state result.step result.reason) j reply.old result.count reply.new }
 {
     reply[j] = high_byte(crc_of(size, work) as u32);
-    Moved {
-        step: Step::Command(opcode, size, CommandStep::TakeGo),
-        reason: reason,
-        count: 1,
-    }
+    to(Step::Command(opcode, size, CommandStep::TakeGo), reason).by_one()
 }

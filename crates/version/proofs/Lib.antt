@@ -2,4 +2,4 @@ pub mod Digits
 pub mod Parts
 pub mod Ranking
 pub mod Ranks
-pub mod Numbers
+pub mod Orders

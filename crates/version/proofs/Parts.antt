@@ -44,7 +44,7 @@ after-other b bs e =
     let k : b ≡ dot = eqb-true b dot d in
     let z : eqb b 0 ≡ false = ne_eqb b 0 (λ q. omega arith) in
     at-dot bs (simp e (ap (λ (x : ℕ). x ∷ bs) k)) (simp (e, z, d)) (simp (z, d)) (simp z))
-    (λ d. cases (eqb b 0) (λ z. at_end (simp (e, z)) (simp (e, z)) (simp (e, z)) (simp (e, d))) (λ z. at_other (simp (e, z, d)) (simp (e, z)) (simp (e, d))))
+    (λ d. cases (eqb b 0) (λ z. at_end (simp (e, z)) (simp z) (simp (e, z)) (simp (e, d))) (λ z. at_other (simp (e, z, d)) (simp (e, z)) (simp (e, d))))
 
 pub after : (l : List ℕ) → After l
 after [] = at_end refl refl refl refl

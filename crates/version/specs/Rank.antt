@@ -1,6 +1,7 @@
 -- The rank of a version field: four numbers, missing ones 0 (rules, 8.2), or its refusal with 61 (rules, 2.3).
 -- Assumes nothing.
-use Rattle.std.specs.Prelude.{ℕ, ◌-◌, List, ◌++◌, map, Bool, cond, length, replicate}
+use Rattle.std.specs.Prelude.{ℕ, ◌-◌, List, ◌++◌, map, length, replicate, Option, Some, None}
+use Rattle.std.specs.Bool.{then_some}
 use Rattle.version.specs.declared.rank.Ranked.{Ranked}
 use Rattle.version.specs.Text.{text, parts, value, most_numbers, well_formed}
 
@@ -19,9 +20,14 @@ malformed_text = 61
 abbrev pub refused : Ranked
 refused = record { number = malformed_text; rank = replicate rank_length 0 }
 
--- a rank where a test holds
-abbrev pub rank_if : Bool → List ℕ → Ranked
-rank_if good rank = cond good (record { number = 0; rank = rank }) refused
+-- the rank of a well-formed field
+abbrev pub numbers_of : List ℕ → Option (List ℕ)
+numbers_of field = then_some (well_formed field) (filled (map value (parts (text field))))
+
+-- the same beside a number
+abbrev pub ranked : Option (List ℕ) → Ranked
+ranked None = refused
+ranked (Some rank) = record { number = 0; rank = rank }
 
 unfoldable pub rank_of : List ℕ → Ranked
-rank_of field = rank_if (well_formed field) (filled (map value (parts (text field))))
+rank_of field = ranked (numbers_of field)

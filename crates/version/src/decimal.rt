@@ -1,62 +1,37 @@
 // A decimal number in a version text.
-ghost use Rattle.std.specs.Prelude.{◌≡◌, cond, ◌&&◌, eqb, ltb, ◌≤◌, length};
-ghost use Rattle.version.specs.Text.{is_digit};
+ghost use Rattle.std.specs.Prelude.{◌≡◌, ◌≤◌, length};
 ghost use Rattle.version.specs.Decimal.{decimal_at};
 
 // The largest number in a version.
 const LARGEST: u32 = 65_535;
 
+// A number's value, and the place after its last digit.
 #[derive(Clone, Copy)]
-pub enum Decimal {
-    // Its value, and the place after its last digit.
-    Written(u32, usize),
-    // No digit, a leading zero, or a number that is too large.
-    Malformed,
+pub struct Decimal {
+    pub value: u32,
+    pub end: usize,
 }
 
-fn is_digit(byte: u8) -> bool
-    ensures { result ≡ is_digit byte }
-{
-    if byte < b'0' { false } else { byte <= b'9' }
-}
-
-// Whether the digits from `start` to `at`, with their value, are a zero before more digits.
-fn is_leading_zero(start: usize, at: usize, value: u32) -> bool
-    ensures { result ≡ (ltb start at && eqb value 0) }
-{
-    if start < at { value == 0 } else { false }
-}
-
-// The number whose digits from `start` on end before `end`; malformed where there is none.
-fn written(start: usize, end: usize, value: u32) -> Decimal
-    ensures { result ≡ cond (eqb end start) Decimal.Malformed (Decimal.Written value end) }
-{
-    if end == start {
-        return Decimal::Malformed;
-    }
-    Decimal::Written(value, end)
-}
-
-// The number whose digits begin at `start`.
-pub fn decimal_at(field: &[u8], start: usize) -> Decimal
+// The number whose digits begin at `start`; none for no digit, a leading zero, or a number that is too large.
+#[tactic(auto, using(crate::proofs::Digits::readings))]
+pub fn decimal_at(field: &[u8], start: usize) -> Option<Decimal>
     requires { start ≤ length field.now }
     ensures { result ≡ decimal_at field.now start }
 {
     let mut value: u32 = 0;
-    let mut at = start;
-    while at < field.len() {
-        let byte = field[at];
-        if !is_digit(byte) {
-            return written(start, at, value);
+    let mut end = start;
+    for &byte in &field[start..] {
+        if !byte.is_ascii_digit() {
+            break;
         }
-        if is_leading_zero(start, at, value) {
-            return Decimal::Malformed;
+        if start < end && value == 0 {
+            return None;
         }
-        value = value * 10 + (byte - b'0') as u32;
+        value = value * 10 + u32::from(byte - b'0');
         if LARGEST < value {
-            return Decimal::Malformed;
+            return None;
         }
-        at += 1;
+        end += 1;
     }
-    written(start, at, value)
+    (start < end).then_some(Decimal { value, end })
 }

@@ -1,54 +1,27 @@
 // The order of two versions.
 ghost use Rattle.std.specs.Prelude.{◌≡◌};
-ghost use Rattle.version.specs.Order.{compared, compared_fields, order_of};
+ghost use Rattle.version.specs.Order.{compared, compared_fields, ordered, order_of};
 
-use crate::rank::{MALFORMED, Rank, rank};
-
-// How a version compares with another.
-#[derive(Clone, Copy)]
-pub enum Comparison {
-    Lower,
-    Same,
-    Higher,
-    // Either text is malformed.
-    Malformed,
-}
+use crate::rank::{MALFORMED, Rank, numbers};
+use std::cmp::Ordering;
 
 // Two ranks, number by number.
-pub fn compare(a: Rank, b: Rank) -> Comparison
+#[tactic(auto, using(crate::proofs::Orders::by_place))]
+pub fn compare(a: Rank, b: Rank) -> Ordering
     ensures { result ≡ compared a b }
 {
-    for place in 0..a.len() {
-        let x = a[place];
-        let y = b[place];
-        if x < y {
-            return Comparison::Lower;
-        }
-        if y < x {
-            return Comparison::Higher;
-        }
-    }
-    Comparison::Same
+    a.cmp(&b)
 }
 
-// Two version fields.
-pub fn compare_fields(a: &[u8], b: &[u8]) -> Comparison
+// Two version fields, if both are well formed.
+#[tactic(auto, using(crate::proofs::Orders::compared_by))]
+pub fn compare_fields(a: &[u8], b: &[u8]) -> Option<Ordering>
     ensures { result ≡ compared_fields a.now b.now }
 {
-    let first = rank(a);
-    if first.number != 0 {
-        return Comparison::Malformed;
-    }
-    let second = rank(b);
-    if second.number != 0 {
-        return Comparison::Malformed;
-    }
-    let p = first.rank;
-    let q = second.rank;
-    compare(p, q)
+    Some(compare(numbers(a)?, numbers(b)?))
 }
 
-// An order, -1, 0 or 1, with the number 0; or order 0 with 61.
+// An order, -1, 0 or 1, with the number 0; or order 0 with 61. C gets it so.
 #[repr(C)]
 #[derive(Clone, Copy)]
 pub struct Ordered {
@@ -56,26 +29,27 @@ pub struct Ordered {
     pub order: i32,
 }
 
-// The order of two version fields.
+impl From<Option<Ordering>> for Ordered {
+    ghost from_gives = { λ order r. r ≡ ordered order };
+
+    fn from(order: Option<Ordering>) -> Ordered {
+        match order {
+            Some(order) => Ordered {
+                number: 0,
+                order: order as i32,
+            },
+            None => Ordered {
+                number: MALFORMED,
+                order: 0,
+            },
+        }
+    }
+}
+
+// The order of two version fields, as C gets it.
+#[tactic(auto, unfolding(crate::specs::Order::order_of))]
 pub fn order(a: &[u8], b: &[u8]) -> Ordered
     ensures { result ≡ order_of a.now b.now }
 {
-    match compare_fields(a, b) {
-        Comparison::Lower => Ordered {
-            number: 0,
-            order: -1,
-        },
-        Comparison::Same => Ordered {
-            number: 0,
-            order: 0,
-        },
-        Comparison::Higher => Ordered {
-            number: 0,
-            order: 1,
-        },
-        Comparison::Malformed => Ordered {
-            number: MALFORMED,
-            order: 0,
-        },
-    }
+    compare_fields(a, b).into()
 }

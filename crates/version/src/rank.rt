@@ -1,7 +1,7 @@
 // The rank of a version: its numbers as one value.
-ghost use Rattle.std.specs.Prelude.{◌≡◌, ◌≤◌, eqb, length, drop, get_or};
-ghost use Rattle.version.specs.Text.{all_zero, dot};
-ghost use Rattle.version.specs.Rank.{rank_if, refused, rank_of};
+ghost use Rattle.std.specs.Prelude.{◌≡◌};
+ghost use Rattle.version.specs.Text.{all_zero};
+ghost use Rattle.version.specs.Rank.{numbers_of, ranked, rank_of};
 
 use crate::decimal::{Decimal, decimal_at};
 
@@ -17,7 +17,7 @@ pub const MALFORMED: u32 = 61;
 // A version's numbers, missing ones 0.
 pub type Rank = [u32; NUMBERS];
 
-// A rank with the number 0, or 61 and a rank of zeros.
+// A rank with the number 0, or 61 and a rank of zeros. C gets it so.
 #[repr(C)]
 #[derive(Clone, Copy)]
 pub struct Ranked {
@@ -25,77 +25,52 @@ pub struct Ranked {
     pub rank: Rank,
 }
 
-fn refused() -> Ranked
-    ensures { result ≡ refused }
-{
-    Ranked {
-        number: MALFORMED,
-        rank: [0u32; NUMBERS],
-    }
-}
+impl From<Option<Rank>> for Ranked {
+    ghost from_gives = { λ numbers r. r ≡ ranked numbers };
 
-// Whether all bytes from `start` on are 00.
-fn all_zero(field: &[u8], start: usize) -> bool
-    requires { start ≤ length field.now }
-    ensures { result ≡ all_zero (drop start field.now) }
-{
-    let mut at = start;
-    while at < field.len() {
-        if field[at] != 0 {
-            return false;
+    fn from(numbers: Option<Rank>) -> Ranked {
+        match numbers {
+            Some(rank) => Ranked { number: 0, rank },
+            None => Ranked {
+                number: MALFORMED,
+                rank: [0; NUMBERS],
+            },
         }
-        at += 1;
-    }
-    true
-}
-
-// Whether a dot is at a place.
-fn is_dot(field: &[u8], place: usize) -> bool
-    ensures { result ≡ eqb (get_or field.now place 0) dot }
-{
-    if place < field.len() {
-        field[place] == b'.'
-    } else {
-        false
     }
 }
 
-// The numbers end before `end`: only 00 may follow.
-fn ended(field: &[u8], end: usize, rank: Rank) -> Ranked
-    requires { end ≤ length field.now }
-    ensures { result ≡ rank_if (all_zero (drop end field.now)) rank }
+// Whether all bytes are 00.
+fn all_zero(bytes: &[u8]) -> bool
+    ensures { result ≡ all_zero bytes.now }
 {
-    if all_zero(field, end) {
-        Ranked {
-            number: 0,
-            rank: rank,
+    bytes.iter().all(|&byte| byte == 0)
+}
+
+// The rank of a version field, if its text is well formed.
+#[tactic(auto, using(crate::proofs::Ranking::rankings), unfolding(crate::specs::Text::well_formed))]
+pub fn numbers(field: &[u8]) -> Option<Rank>
+    ensures { result ≡ numbers_of field.now }
+{
+    if field.len() != FIELD {
+        return None;
+    }
+    let mut rank = [0; NUMBERS];
+    let mut at = 0;
+    for number in &mut rank {
+        let Decimal { value, end } = decimal_at(field, at)?;
+        *number = value;
+        if field.get(end) != Some(&b'.') {
+            return all_zero(&field[end..]).then_some(rank);
         }
-    } else {
-        refused()
+        at = end + 1;
     }
+    None
 }
 
-// The rank of a version field.
+// The same, as C gets it.
+#[tactic(auto, unfolding(crate::specs::Rank::rank_of))]
 pub fn rank(field: &[u8]) -> Ranked
     ensures { result ≡ rank_of field.now }
 {
-    if field.len() != FIELD {
-        return refused();
-    }
-    let mut rank = [0u32; NUMBERS];
-    let mut at = 0;
-    let mut place = 0;
-    while place < NUMBERS {
-        let Decimal::Written(value, end) = decimal_at(field, at) else {
-            return refused();
-        };
-        rank[place] = value;
-        if is_dot(field, end) {
-            at = end + 1;
-            place += 1;
-        } else {
-            return ended(field, end, rank);
-        }
-    }
-    refused()
+    numbers(field).into()
 }

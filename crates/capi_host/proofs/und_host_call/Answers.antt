@@ -8,4 +8,4 @@ use Rattle.capi_host.proofs.und_host_call.Goals as goal
 pub returns : goal.returns
 returns c =
     handed-back host_session c.args.words.now (lent c.args.opcode c.args.payload.now c.args.answer.now) c.args.input.now c.args.output.now
-    _ (c.record_of.ensures.value, c.record_of.ensures.words_back) _ _ _ c.call-report.ensures _ _ (c.hand_back.ensures.value, c.hand_back.ensures.words_after)
+    _ c.from-session.ensures _ _ _ c.call-report.ensures _ _ (c.hand_back.ensures.value, c.hand_back.ensures.words_after)

@@ -7,4 +7,4 @@ use Rattle.capi_rom.proofs.und_rom_call.Goals as goal
 pub returns : goal.returns
 returns c =
     handed-back rom c.args.words.now c.args.ram.now c.args.input.now c.args.reply.now
-    _ (c.record_of.ensures.value, c.record_of.ensures.words_back) _ _ _ c.call-report.ensures _ _ (c.hand_back.ensures.value, c.hand_back.ensures.words_after)
+    _ c.from-session.ensures _ _ _ c.call-report.ensures _ _ (c.hand_back.ensures.value, c.hand_back.ensures.words_after)

@@ -6,4 +6,4 @@ use Rattle.host_turn.proofs.Answers.{high-sent}
 use Rattle.host_turn.proofs.answer.send_crc_high.Goals as goal
 
 pub returns : goal.returns
-returns c = record { is = λ opcode payload is. high-sent opcode _ payload _ _ is _ _ _ (c.high_byte.ensures ∙ ap high_byte c.crc_of.ensures) c.requires.1 }
+returns c = rw (c.by_one.ensures, c.to.ensures) (record { is = λ opcode payload is. high-sent opcode _ payload _ _ is _ _ _ (c.high_byte.ensures ∙ ap high_byte c.crc_of.ensures) c.requires.1 })

@@ -6,4 +6,4 @@ use mathlib.Core.Path.{◌∙◌, ap}
 use Rattle.uartboot_payload.proofs.checksum.send_crc_high.Goals as goal
 
 pub returns : goal.returns
-returns c = record { is = λ ram flash. high-sent _ _ _ _ _ _ _ (c.high_byte.ensures ∙ ap high_byte c.crc_of.ensures) c.requires.1 }
+returns c = rw (c.by_one.ensures, c.to.ensures) (record { is = λ ram flash. high-sent _ _ _ _ _ _ _ (c.high_byte.ensures ∙ ap high_byte c.crc_of.ensures) c.requires.1 })
