@@ -17,6 +17,7 @@ use machine::stop::{Place, Standing, Stop};
 use machine::{BAD_RECORD, Record, Report, refused};
 
 // Acts until a byte or room is missing, or the command is over. After a look it is over.
+// One loop per session: in a trait the memories would be `&mut` fields, and its clauses on their names are longer than the loop.
 fn act(
     x: Exchange,
     first: Step,
@@ -38,21 +39,21 @@ fn act(
                     return at.stop(Standing::NeedsByte);
                 }
                 let moved = take(taking, x, at.reason, payload, input, at.taken, answer);
-                at.took(moved, input.len());
+                at.add_taken(moved, input.len());
             }
             Ask::Send(sending) => {
                 if at.sent >= output.len() {
                     return at.stop(Standing::NeedsRoom);
                 }
                 let moved = send(sending, x, at.reason, payload, output, at.sent, answer);
-                at.sent(moved, output.len());
+                at.add_sent(moved, output.len());
             }
             Ask::Look => {
                 if at.taken >= input.len() {
                     return at.stop(Standing::NeedsByte);
                 }
                 let moved = look(at.reason, input[at.taken]);
-                at.took(moved, input.len());
+                at.add_taken(moved, input.len());
                 return at.stop(Standing::Ended);
             }
             Ask::Halt => {

@@ -4,6 +4,7 @@
 ghost use Rattle.std.specs.Prelude.{◌≡◌};
 ghost use Rattle.machine.specs.Session.{start_record, refused_report};
 
+pub mod ask;
 pub mod step;
 pub mod stop;
 pub mod word;

@@ -55,7 +55,7 @@ impl<S: Copy> Place<S> {
     }
 
     // Past a turn that took bytes. That they lie within the input, of `end` bytes, shows that the sum doesn't wrap.
-    pub fn took(&mut self, moved: Moved<S>, end: usize)
+    pub fn add_taken(&mut self, moved: Moved<S>, end: usize)
         requires { self.old.taken + moved.count ≤ end }
         ensures { self.new ≡ record { step = moved.step; reason = moved.reason; taken = self.old.taken + moved.count; sent = self.old.sent } }
     {
@@ -65,7 +65,7 @@ impl<S: Copy> Place<S> {
     }
 
     // Past a turn that sent bytes, within the reply of `end` bytes.
-    pub fn sent(&mut self, moved: Moved<S>, end: usize)
+    pub fn add_sent(&mut self, moved: Moved<S>, end: usize)
         requires { self.old.sent + moved.count ≤ end }
         ensures { self.new ≡ record { step = moved.step; reason = moved.reason; taken = self.old.taken; sent = self.old.sent + moved.count } }
     {

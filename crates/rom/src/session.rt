@@ -7,9 +7,10 @@ ghost use Rattle.rom_flow.specs.State.{state};
 ghost use Rattle.rom.specs.Session.{rom, given_back};
 ghost use Rattle.rom_flow.specs.Sound.{Ready};
 
+use machine::ask::Ask;
 use machine::stop::{Place, Standing, Stop};
 use machine::{BAD_RECORD, Record, Report, refused};
-use rom_flow::ask::{Ask, ask_of};
+use rom_flow::ask::ask_of;
 use rom_flow::kind::Kind;
 use rom_flow::step::Step;
 use rom_record::{decode, encode};
@@ -17,7 +18,15 @@ use rom_turn::{send, take};
 use wire::length::{BAD_RAM, is_ram_length};
 
 // Acts until a byte or room is missing, or code runs.
-fn act(kind: Kind, first: Step, reason: u32, input: &[u8], reply: &mut [u8], ram: &mut [u8]) -> Stop<Step>
+// One loop per session: in a trait the memories would be `&mut` fields, and its clauses on their names are longer than the loop.
+fn act(
+    kind: Kind,
+    first: Step,
+    reason: u32,
+    input: &[u8],
+    reply: &mut [u8],
+    ram: &mut [u8],
+) -> Stop<Step>
     requires { Ready kind first ram.old }
     ensures { ActedTo receiver (state kind first reason ram.old) input.now reply.old result (state kind result.at.step result.at.reason ram.new) reply.new }
 {
@@ -29,14 +38,14 @@ fn act(kind: Kind, first: Step, reason: u32, input: &[u8], reply: &mut [u8], ram
                     return at.stop(Standing::NeedsByte);
                 }
                 let moved = take(taking, kind, at.reason, input, at.taken, ram);
-                at.took(moved, input.len());
+                at.add_taken(moved, input.len());
             }
             Ask::Send(sending) => {
                 if at.sent >= reply.len() {
                     return at.stop(Standing::NeedsRoom);
                 }
                 let moved = send(sending, at.reason, reply, at.sent, ram);
-                at.sent(moved, reply.len());
+                at.add_sent(moved, reply.len());
             }
             Ask::Halt => {
                 return at.stop(Standing::Ended);

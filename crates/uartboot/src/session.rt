@@ -8,15 +8,17 @@ ghost use Rattle.uartboot_flow.specs.Device.{device};
 ghost use Rattle.uartboot_flow.specs.Sound.{Ready};
 ghost use Rattle.uartboot.specs.Session.{refusal_of, uartboot, given_back};
 
+use machine::ask::Ask;
 use machine::stop::{Place, Standing, Stop};
 use machine::{BAD_RECORD, Record, Report, refused};
-use uartboot_flow::ask::{Ask, ask_of};
+use uartboot_flow::ask::ask_of;
 use uartboot_flow::step::Step;
 use uartboot_record::{decode, encode};
 use uartboot_turn::{send, take};
 use wire::length::{BAD_FLASH, BAD_RAM, BAD_WORK, is_flash_length, is_ram_length, is_work_length};
 
 // Acts until a byte or room is missing, or code runs.
+// One loop per session: in a trait the memories would be `&mut` fields, and its clauses on their names are longer than the loop.
 fn act(
     first: Step,
     reason: u32,
@@ -37,14 +39,14 @@ fn act(
                     return at.stop(Standing::NeedsByte);
                 }
                 let moved = take(taking, at.reason, input, at.taken, ram, flash, work);
-                at.took(moved, input.len());
+                at.add_taken(moved, input.len());
             }
             Ask::Send(sending) => {
                 if at.sent >= reply.len() {
                     return at.stop(Standing::NeedsRoom);
                 }
                 let moved = send(sending, at.reason, reply, at.sent, ram, flash, work);
-                at.sent(moved, reply.len());
+                at.add_sent(moved, reply.len());
             }
             Ask::Halt => {
                 return at.stop(Standing::Ended);
