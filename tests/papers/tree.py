@@ -11,7 +11,7 @@ DEFINED = re.compile(r"^ *(?:abbrev |unfoldable )?(?:pub )?(?:record |data )?((?
 WRITTEN = re.compile(r"\b(?:fn|struct|enum|trait|const|mod) (\w+)|^ +([A-Z]\w*)(?=[(,])|^impl (\w+)", re.M)
 DECLARED = re.compile(r"\b(und_\w+)\(|\b(UND_\w+) =|^\} (und_\w+);", re.M)
 PORT = re.compile(r"(?:docs/)?PORT[\w-]*\.md")
-METHOD = re.compile(r"^impl (\w+) \{\n(.*?)^\}", re.M | re.S)
+METHOD = re.compile(r"^impl(?:<[^\n{]*>)? (\w+)(?:<[^\n{]*>)? \{\n(.*?)^\}", re.M | re.S)
 TRAIT = re.compile(r"^pub trait (\w+)[^{\n]* \{\n(.*?)^\}", re.M | re.S)
 
 

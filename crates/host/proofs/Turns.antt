@@ -3,7 +3,7 @@
 use Prim.Native.Nat.{ℕ, ◌+◌, ◌-◌, ◌≤◌, ◌<◌}
 use native.Mathlib.Omega.{arith}
 use mathlib.Core.Path.{◌≡◌, refl, subst}
-use mathlib.Core.List.{List, [], ◌∷◌}
+use mathlib.Core.List.{List}
 use lib.Dec.{eqb}
 use lib.ListN.{length, get_or}
 use Rattle.wire.specs.Line.{stx}
@@ -22,7 +22,7 @@ use Rattle.host_flow.specs.declared.ask.Taking.{Taking}
 use Rattle.host_flow.specs.declared.ask.Sending.{Sending}
 use Rattle.host_flow.specs.declared.ask.Ask.{Ask}
 use Rattle.host_flow.specs.declared.ask.Ask.TheVariants.{Take, Send, Look, Halt}
-use Rattle.host_flow.specs.State.{State, state}
+use Rattle.host_flow.specs.State.{state}
 use Rattle.host_flow.specs.Flow.{expected}
 use Rattle.host_flow.specs.Host.{host}
 use Rattle.host_flow.specs.Sound.{Ready}
@@ -31,9 +31,6 @@ use Rattle.host_flow.specs.Ask.{TakesSo, SendsSo, Asked, FitsTaking, FitsSending
 use Rattle.host_flow.proofs.Asks.{taking-takes, sending-sends, fits-taking, fits-sending}
 use Rattle.host_flow.proofs.Sounds.{Held, same-lent}
 use Rattle.host_flow.proofs.Laws.{held}
-
-silent : (s : State) (a : ℕ) → host.says s (a ∷ []) ≡ []
-silent s a = refl
 
 -- what is lent, from which x is known
 abbrev pub lent_to : Exchange → (payload answer : List ℕ) → Lent
@@ -50,7 +47,7 @@ look-few reason byte r l = rw l.count_is (in-cond (λ (k : ℕ). k ≤ 1) (eqb b
 
 module _ {x : Exchange} {first : Step} {reason₀ : ℕ} {payload answer₀ input old : List ℕ} where
   pub begins : exchange_of x.opcode payload ≡ x → Ready first (lent_to x payload answer₀) → At x first reason₀ payload answer₀ input old first reason₀ answer₀ old 0 0
-  begins e h = record { known = e; turn = turn-begins host silent (held (lent_to x payload answer₀) Any) (record { ready = h; same = same-lent (lent_to x payload answer₀) }) }
+  begins e h = record { known = e; turn = turn-begins {m = host} (λ s a. refl) (held (lent_to x payload answer₀) Any) (record { ready = h; same = same-lent (lent_to x payload answer₀) }) }
 
   -- a look at the next byte, after which the command is over
   look-acted : {last : ℕ} {answer output : List ℕ} {i j : ℕ} → At x first reason₀ payload answer₀ input old step.Look last answer output i j → i < length input →
@@ -60,7 +57,7 @@ module _ {x : Exchange} {first : Step} {reason₀ : ℕ} {payload answer₀ inpu
       let c = lent_to x payload answer in
       let is = l.is c in
       let ended : host.need (expected last c stx (get_or input i 0) step.Over) ≡ machine.runs = rw (← is, l.over) refl in
-      rw (l.count_is, is) (turn-looked host silent (held (lent_to x payload answer₀) Any) t.turn refl h ended)
+      rw (l.count_is, is) (turn-looked t.turn refl h ended)
 
   module _ {s : Step} {last : ℕ} {answer output : List ℕ} {i j : ℕ} (t : At x first reason₀ payload answer₀ input old s last answer output i j) where
     pub same-output : length output ≡ length old
@@ -82,17 +79,17 @@ module _ {x : Exchange} {first : Step} {reason₀ : ℕ} {payload answer₀ inpu
           taken = h.is x.opcode s t.known takes-so
 
           pub took : At x first reason₀ payload answer₀ input old r.step r.reason answer' output (i + r.count) j
-          took = record { known = t.known; turn = turn-took host silent (held (lent_to x payload answer₀) Any) t.turn taken }
+          took = record { known = t.known; turn = turn-took t.turn taken }
 
           pub took-fits : i + r.count ≤ length input
-          took-fits = turn-took-fits host silent (held (lent_to x payload answer₀) Any) t.turn taken
+          took-fits = turn-took-fits t.turn taken
 
           pub took-less : length input - (i + r.count) + (length output - j) < length input - i + (length output - j)
-          took-less = turn-took-less host silent (held (lent_to x payload answer₀) Any) t.turn taken
+          took-less = turn-took-less t.turn taken
 
         pub hungry : length input ≤ i →
             Acted host (state first reason₀ (lent_to x payload answer₀)) input old i j 1 (state s last (lent_to x payload answer)) output
-        hungry h = turn-hungry host silent (held (lent_to x payload answer₀) Any) t.turn (taking-takes last (lent_to x payload answer) x t.known s y takes-so) h
+        hungry h = turn-hungry t.turn (taking-takes last (lent_to x payload answer) x t.known s y takes-so) h
 
       module _ (y : Sending) (e : a ≡ Send y) where
         sends-so : SendsSo y x s
@@ -106,17 +103,17 @@ module _ {x : Exchange} {first : Step} {reason₀ : ℕ} {payload answer₀ inpu
           sent-all = h.is x.opcode s t.known sends-so
 
           pub sent : At x first reason₀ payload answer₀ input old r.step r.reason answer output' i (j + r.count)
-          sent = record { known = t.known; turn = turn-sent host silent (held (lent_to x payload answer₀) Any) t.turn sent-all }
+          sent = record { known = t.known; turn = turn-sent t.turn sent-all }
 
           pub sent-fits : j + r.count ≤ length output'
-          sent-fits = turn-sent-fits host silent (held (lent_to x payload answer₀) Any) t.turn sent-all
+          sent-fits = turn-sent-fits t.turn sent-all
 
           pub sent-less : length input - i + (length output' - (j + r.count)) < length input - i + (length output - j)
-          sent-less = turn-sent-less host silent (held (lent_to x payload answer₀) Any) t.turn sent-all
+          sent-less = turn-sent-less t.turn sent-all
 
         pub choked : length output ≤ j →
             Acted host (state first reason₀ (lent_to x payload answer₀)) input old i j 2 (state s last (lent_to x payload answer)) output
-        choked h = turn-choked host silent (held (lent_to x payload answer₀) Any) t.turn (sending-sends last (lent_to x payload answer) x t.known s y sends-so) (omega arith) h
+        choked h = turn-choked t.turn (sending-sends last (lent_to x payload answer) x t.known s y sends-so) (omega arith) h
 
       module _ (e : a ≡ Look) where
         is-look : s ≡ step.Look
@@ -124,7 +121,7 @@ module _ {x : Exchange} {first : Step} {reason₀ : ℕ} {payload answer₀ inpu
 
         pub look-hungry : length input ≤ i →
             Acted host (state first reason₀ (lent_to x payload answer₀)) input old i j 1 (state s last (lent_to x payload answer)) output
-        look-hungry h = turn-hungry host silent (held (lent_to x payload answer₀) Any) t.turn (rw is-look refl) h
+        look-hungry h = turn-hungry t.turn (rw is-look refl) h
 
         pub look-fits : i < length input → (r : Moved Step) → Looked last (get_or input i 0) r → i + r.count ≤ length input
         look-fits h r l = omega (arith, look-few last (get_or input i 0) r l)
@@ -135,4 +132,4 @@ module _ {x : Exchange} {first : Step} {reason₀ : ℕ} {payload answer₀ inpu
 
       pub halts : a ≡ Halt →
           Acted host (state first reason₀ (lent_to x payload answer₀)) input old i j 3 (state s last (lent_to x payload answer)) output
-      halts e = turn-halts host silent (held (lent_to x payload answer₀) Any) t.turn (let over : s ≡ step.Over = rw e at asked in rw over refl)
+      halts e = turn-halts t.turn (let over : s ≡ step.Over = rw e at asked in rw over refl)

@@ -1,7 +1,7 @@
 // The host: the loop over its turns, and the call.
 ghost use Rattle.std.specs.Prelude.{◌≡◌};
-ghost use Rattle.machine.specs.Loop.{Acted};
 ghost use Rattle.machine.specs.Session.{result_of};
+ghost use Rattle.machine.specs.Stop.{ActedTo};
 ghost use Rattle.host_command.specs.Exchange.{lent, exchange_of};
 ghost use Rattle.host_flow.specs.State.{state};
 ghost use Rattle.host_flow.specs.Host.{host};
@@ -13,31 +13,11 @@ use host_flow::ask::{Ask, ask_of};
 use host_flow::step::Step;
 use host_record::{decode, encode};
 use host_turn::{look, send, take};
-use machine::{BAD_RECORD, Record, Report, advance, refused};
-
-// Where the actions stopped: waiting for a byte (1) or for room (2), or the command is over (3).
-#[derive(Clone, Copy)]
-struct Stop {
-    step: Step,
-    reason: u32,
-    taken: usize,
-    sent: usize,
-    standing: u32,
-}
-
-fn stopped(step: Step, reason: u32, taken: usize, sent: usize, standing: u32) -> Stop
-    ensures { result ≡ record { step = step; reason = reason; taken = taken; sent = sent; standing = standing } }
-{
-    Stop {
-        step: step,
-        reason: reason,
-        taken: taken,
-        sent: sent,
-        standing: standing,
-    }
-}
+use machine::stop::{Place, Standing, Stop};
+use machine::{BAD_RECORD, Record, Report, refused};
 
 // Acts until a byte or room is missing, or the command is over. After a look it is over.
+// One loop per session: in a trait the memories would be `&mut` fields, and its clauses on their names are longer than the loop.
 fn act(
     x: Exchange,
     first: Step,
@@ -46,46 +26,38 @@ fn act(
     input: &[u8],
     output: &mut [u8],
     answer: &mut [u8],
-) -> Stop
+) -> Stop<Step>
     requires payload_value { exchange_of x.opcode payload.now ≡ x }
     requires ready { Ready first (lent x.opcode payload.now answer.old) }
-    ensures { Acted host (state first reason (lent x.opcode payload.now answer.old)) input.now output.old result.taken result.sent result.standing (state result.step result.reason (lent x.opcode payload.now answer.new)) output.new }
+    ensures { ActedTo host (state first reason (lent x.opcode payload.now answer.old)) input.now output.old result (state result.at.step result.at.reason (lent x.opcode payload.now answer.new)) output.new }
 {
-    let mut step = first;
-    let mut noted = reason;
-    let mut i: usize = 0;
-    let mut j: usize = 0;
+    let mut at = Place::start(first, reason);
     loop {
-        match ask_of(x, step) {
+        match ask_of(x, at.step) {
             Ask::Take(taking) => {
-                if i >= input.len() {
-                    return stopped(step, noted, i, j, 1);
+                if at.taken >= input.len() {
+                    return at.stop(Standing::NeedsByte);
                 }
-                let after = take(taking, x, noted, payload, input, i, answer);
-                step = after.step;
-                noted = after.reason;
-                i = advance(i, after.count, input.len());
+                let moved = take(taking, x, at.reason, payload, input, at.taken, answer);
+                at.add_taken(moved, input.len());
             }
             Ask::Send(sending) => {
-                if j >= output.len() {
-                    return stopped(step, noted, i, j, 2);
+                if at.sent >= output.len() {
+                    return at.stop(Standing::NeedsRoom);
                 }
-                let after = send(sending, x, noted, payload, output, j, answer);
-                step = after.step;
-                noted = after.reason;
-                j = advance(j, after.count, output.len());
+                let moved = send(sending, x, at.reason, payload, output, at.sent, answer);
+                at.add_sent(moved, output.len());
             }
             Ask::Look => {
-                if i >= input.len() {
-                    return stopped(step, noted, i, j, 1);
+                if at.taken >= input.len() {
+                    return at.stop(Standing::NeedsByte);
                 }
-                let after = look(noted, input[i]);
-                let ended = after.step;
-                let past = advance(i, after.count, input.len());
-                return stopped(ended, after.reason, past, j, 3);
+                let moved = look(at.reason, input[at.taken]);
+                at.add_taken(moved, input.len());
+                return at.stop(Standing::Ended);
             }
             Ask::Halt => {
-                return stopped(step, noted, i, j, 3);
+                return at.stop(Standing::Ended);
             }
         }
     }
@@ -108,14 +80,7 @@ pub fn call(
             None => refused(BAD_RECORD, session),
             Some(step) => {
                 let end = act(x, step, session.reason, payload, input, output, answer);
-                let reached = end.step;
-                Report {
-                    number: 0,
-                    standing: end.standing,
-                    taken: end.taken,
-                    sent: end.sent,
-                    session: encode(reached, end.reason),
-                }
+                end.report(encode(end.at.step, end.at.reason))
             }
         },
     }

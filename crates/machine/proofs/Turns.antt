@@ -2,35 +2,34 @@
 -- Assumes nothing.
 use Prim.Native.Nat.{ℕ, ◌+◌, ◌-◌, ◌≤◌, ◌<◌}
 use native.Mathlib.Omega.{arith}
-use mathlib.Core.Path.{◌≡◌, refl}
+use mathlib.Core.Path.{◌≡◌}
 use mathlib.Core.List.{List, [], ◌∷◌}
 use lib.ListN.{length, get_or}
 use Rattle.machine.specs.Machine as machine
 use Rattle.machine.specs.Machine.{Machine}
-use Rattle.machine.specs.Does.{Does, need_of, line_of}
 use Rattle.machine.specs.Lawful.{Any, Lawful}
 use Rattle.machine.specs.Loop.{Acted}
 use Rattle.machine.specs.Steps.{Taken, Sent}
 use Rattle.machine.proofs.Loops.{Reached, reached-start, reached-look, acted-hungry, acted-choked, acted-runs}
 use Rattle.machine.proofs.Repeats.{reached-takes, reached-sends, takes-keep, sends-keep, takes-fit, sends-fit, sends-length}
 
--- a call at s₀ has come to s, which is sound, with i bytes taken and j sent
+-- a call at s₀ of a lawful machine whose takes send nothing has come to s, which is sound, with i bytes taken and j sent
 pub record Turn {S : Type 0} (m : Machine ℕ S) (Sound : S → Type 0) (s₀ : S) (input old : List ℕ) (s : S) (reply : List ℕ) (i j : ℕ) : Type 0 where
+  pub silent : (s : S) (a : ℕ) → m.says s (a ∷ []) ≡ []
+  pub law : Lawful m Any Sound
   pub reached : Reached m s₀ input old s i j reply
   pub keeps : Sound s
 
--- of any machine whose takes send nothing
-module _ {S : Type 0} (m : Machine ℕ S) (silent : (s : S) (a : ℕ) → m.says s (a ∷ []) ≡ []) {Sound : S → Type 0} (law : Lawful m Any Sound)
-    {s₀ : S} {input old : List ℕ} where
-  pub turn-begins : Sound s₀ → Turn m Sound s₀ input old s₀ old 0 0
-  turn-begins h = record { reached = reached-start m s₀ input old; keeps = h }
+module _ {S : Type 0} {m : Machine ℕ S} {Sound : S → Type 0} {s₀ : S} {input old : List ℕ} where
+  pub turn-begins : ((s : S) (a : ℕ) → m.says s (a ∷ []) ≡ []) → Lawful m Any Sound → Sound s₀ → Turn m Sound s₀ input old s₀ old 0 0
+  turn-begins silent law h = record { silent = silent; law = law; reached = reached-start m s₀ input old; keeps = h }
 
   module _ {s : S} {reply : List ℕ} {i j : ℕ} (t : Turn m Sound s₀ input old s reply i j) where
     pub turn-took : {s' : S} {count : ℕ} → Taken m input i s count s' → Turn m Sound s₀ input old s' reply (i + count) j
-    turn-took h = record { reached = reached-takes m silent law t.reached h.takes; keeps = takes-keep m Sound law.stays_sound h.takes t.keeps }
+    turn-took h = record { silent = t.silent; law = t.law; reached = reached-takes m t.silent t.law t.reached h.takes; keeps = takes-keep m Sound t.law.stays_sound h.takes t.keeps }
 
     pub turn-sent : {s' : S} {count : ℕ} {reply' : List ℕ} → Sent m s j reply count s' reply' → Turn m Sound s₀ input old s' reply' i (j + count)
-    turn-sent h = record { reached = reached-sends m silent law t.reached h.sends; keeps = sends-keep m Sound law.stays_sound h.sends t.keeps }
+    turn-sent h = record { silent = t.silent; law = t.law; reached = reached-sends m t.silent t.law t.reached h.sends; keeps = sends-keep m Sound t.law.stays_sound h.sends t.keeps }
 
     -- what is left of input and room gets less with each turn
     pub turn-took-fits : {s' : S} {count : ℕ} → Taken m input i s count s' → i + count ≤ length input
@@ -48,10 +47,10 @@ module _ {S : Type 0} (m : Machine ℕ S) (silent : (s : S) (a : ℕ) → m.says
 
     -- where the loop stops: since a byte is missing, since room is missing, since no action is left
     pub turn-hungry : m.need s ≡ machine.take_one → length input ≤ i → Acted m s₀ input old i j 1 s reply
-    turn-hungry e h = acted-hungry m law t.reached e h
+    turn-hungry e h = acted-hungry m t.law t.reached e h
 
     pub turn-choked : m.need s ≡ machine.send_one → 0 < length (m.says s []) → length reply ≤ j → Acted m s₀ input old i j 2 s reply
-    turn-choked e speaks h = acted-choked m law t.reached e speaks h
+    turn-choked e speaks h = acted-choked m t.law t.reached e speaks h
 
     pub turn-halts : m.need s ≡ machine.runs → Acted m s₀ input old i j 3 s reply
     turn-halts e = acted-runs m _ input old _ i j reply t.reached e
@@ -59,45 +58,4 @@ module _ {S : Type 0} (m : Machine ℕ S) (silent : (s : S) (a : ℕ) → m.says
     -- since none is left after a look at the next byte, which may stay untaken
     pub turn-looked : m.need s ≡ machine.take_one → i < length input → let view = get_or input i 0 ∷ [] in m.need (m.after s view) ≡ machine.runs →
         Acted m s₀ input old (i + m.takes s view) j 3 (m.after s view) reply
-    turn-looked e h f = acted-runs m _ input old _ (i + m.takes s (get_or input i 0 ∷ [])) j reply (reached-look m law t.reached 0 e h (silent s (get_or input i 0))) f
-
--- of a machine that is given by one table
-module _ {S : Type 0} (does : S → Does ℕ S) (due : S → ℕ) where
-  abbrev m : Machine ℕ S
-  m = line_of does due
-
-  silent : (s : S) (a : ℕ) → m.says s (a ∷ []) ≡ []
-  silent s a = refl
-
-  module _ {Sound : S → Type 0} (law : Lawful m Any Sound) {s₀ : S} {input old : List ℕ} where
-    pub begins : Sound s₀ → Turn m Sound s₀ input old s₀ old 0 0
-    begins h = turn-begins m silent law h
-
-    module _ {s : S} {reply : List ℕ} {i j : ℕ} (t : Turn m Sound s₀ input old s reply i j) where
-      pub took-turn : {s' : S} {count : ℕ} → Taken m input i s count s' → Turn m Sound s₀ input old s' reply (i + count) j
-      took-turn h = turn-took m silent law t h
-
-      pub sent-turn : {s' : S} {count : ℕ} {reply' : List ℕ} → Sent m s j reply count s' reply' → Turn m Sound s₀ input old s' reply' i (j + count)
-      sent-turn h = turn-sent m silent law t h
-
-      pub took-fits : {s' : S} {count : ℕ} → Taken m input i s count s' → i + count ≤ length input
-      took-fits h = turn-took-fits m silent law t h
-
-      pub took-less : {s' : S} {count : ℕ} → Taken m input i s count s' → length input - (i + count) + (length reply - j) < length input - i + (length reply - j)
-      took-less h = turn-took-less m silent law t h
-
-      pub sent-fits : {s' : S} {count : ℕ} {reply' : List ℕ} → Sent m s j reply count s' reply' → j + count ≤ length reply'
-      sent-fits h = turn-sent-fits m silent law t h
-
-      pub sent-less : {s' : S} {count : ℕ} {reply' : List ℕ} → Sent m s j reply count s' reply' →
-          length input - i + (length reply' - (j + count)) < length input - i + (length reply - j)
-      sent-less h = turn-sent-less m silent law t h
-
-      pub hungry : need_of (does s) ≡ machine.take_one → length input ≤ i → Acted m s₀ input old i j 1 s reply
-      hungry e h = turn-hungry m silent law t e h
-
-      pub choked : need_of (does s) ≡ machine.send_one → length reply ≤ j → Acted m s₀ input old i j 2 s reply
-      choked e h = turn-choked m silent law t e (omega arith) h
-
-      pub halts : need_of (does s) ≡ machine.runs → Acted m s₀ input old i j 3 s reply
-      halts e = turn-halts m silent law t e
+    turn-looked e h f = acted-runs m _ input old _ (i + m.takes s (get_or input i 0 ∷ [])) j reply (reached-look m t.law t.reached 0 e h (t.silent s (get_or input i 0))) f

@@ -12,6 +12,7 @@ pub mod Words
 pub mod Word
 pub mod Session
 pub mod Loop
+pub mod Stop
 pub mod Listing
 pub mod SessionLaws
 pub mod SessionClaim

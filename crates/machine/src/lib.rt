@@ -1,10 +1,12 @@
 // Sessions as deterministic machines: what a caller keeps of one between calls, and what a call reports.
 #![tactic(auto)]
 
-ghost use Rattle.std.specs.Prelude.{◌≡◌, ◌+◌, ◌≤◌};
+ghost use Rattle.std.specs.Prelude.{◌≡◌};
 ghost use Rattle.machine.specs.Session.{start_record, refused_report};
 
+pub mod ask;
 pub mod step;
+pub mod stop;
 pub mod word;
 pub mod words;
 
@@ -39,11 +41,11 @@ pub fn refused(number: u32, session: Record) -> Report
     ensures { result ≡ refused_report number session }
 {
     Report {
-        number: number,
+        number,
         standing: 0,
         taken: 0,
         sent: 0,
-        session: session,
+        session,
     }
 }
 
@@ -52,7 +54,7 @@ pub fn start(kind: u32) -> Record
     ensures { result ≡ start_record kind }
 {
     Record {
-        kind: kind,
+        kind,
         phase: 0,
         opcode: 0,
         length: 0,
@@ -61,12 +63,4 @@ pub fn start(kind: u32) -> Record
         reason: 0,
         spare: 0,
     }
-}
-
-// `count` bytes further on. That this lies within `end` shows that the sum doesn't wrap.
-pub fn advance(place: usize, count: usize, end: usize) -> usize
-    requires { place + count ≤ end }
-    ensures { result ≡ place + count }
-{
-    place + count
 }

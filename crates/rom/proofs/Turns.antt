@@ -1,6 +1,7 @@
 -- The turns of the receiver's loop, by what was asked.
 -- Assumes nothing.
 use Prim.Native.Nat.{ℕ, ◌≤◌}
+use native.Mathlib.Omega.{arith}
 use mathlib.Core.Path.{◌≡◌, refl, ap}
 use mathlib.Core.List.{List}
 use lib.ListN.{length}
@@ -8,19 +9,16 @@ use Rattle.machine.specs.Does.{Does, need_of}
 use Rattle.machine.specs.Lawful.{Any}
 use Rattle.machine.specs.Loop.{Acted}
 use Rattle.machine.specs.Steps.{Taken, Sent}
-use Rattle.machine.proofs.Turns.{Turn}
-use Rattle.machine.proofs.Turns as turns
+use Rattle.machine.proofs.Turns.{Turn, turn-begins, turn-hungry, turn-choked, turn-halts}
 use Rattle.rom_flow.specs.declared.kind.Kind.{Kind}
 use Rattle.rom_flow.specs.declared.step.Step.{Step}
 use Rattle.machine.specs.declared.step.Moved.{Moved}
 use Rattle.rom_flow.specs.declared.ask.Taking.{Taking}
 use Rattle.rom_flow.specs.declared.ask.Sending.{Sending}
 use Rattle.rom_flow.specs.declared.ask.Sending.TheVariants.{Byte, Xor}
-use Rattle.rom_flow.specs.declared.ask.Ask.{Ask}
-use Rattle.rom_flow.specs.declared.ask.Ask.TheVariants.{Take, Send, Halt}
+use Rattle.machine.specs.declared.ask.Ask.{Ask}
+use Rattle.machine.specs.declared.ask.Ask.TheVariants.{Take, Send, Halt}
 use Rattle.rom_flow.specs.State.{State, state}
-use Rattle.rom_flow.specs.Flow.{does}
-use Rattle.rom_flow.specs.Due.{due}
 use Rattle.rom_flow.specs.Receiver.{receiver}
 use Rattle.rom_flow.specs.Sound.{Ready}
 use Rattle.rom_flow.specs.Ask.{step_of, SendsSo, InRam, Asked, SentSo}
@@ -35,9 +33,9 @@ At kind first reason₀ ram₀ input old s last ram reply i j =
 
 module _ {kind : Kind} {first : Step} {reason₀ : ℕ} {ram₀ input old : List ℕ} where
   pub begins : Ready kind first ram₀ → At kind first reason₀ ram₀ input old first reason₀ ram₀ old 0 0
-  begins h = turns.begins does due (held ram₀ Any) (record { ready = h; same = refl })
+  begins h = turn-begins (λ s a. refl) (held ram₀ Any) (record { ready = h; same = refl })
 
-  module _ {s : Step} {last : ℕ} {ram reply : List ℕ} {i j : ℕ} (t : At kind first reason₀ ram₀ input old s last ram reply i j) (a : Ask) (asked : Asked a s) where
+  module _ {s : Step} {last : ℕ} {ram reply : List ℕ} {i j : ℕ} (t : At kind first reason₀ ram₀ input old s last ram reply i j) (a : Ask Taking Sending) (asked : Asked a s) where
     module _ (x : Taking) (e : a ≡ Take x) where
       step_is : s ≡ step_of x
       step_is = rw e at asked
@@ -49,7 +47,7 @@ module _ {kind : Kind} {first : Step} {reason₀ : ℕ} {ram₀ input old : List
       taken h = rw step_is h
 
       pub hungry : length input ≤ i → Acted receiver (state kind first reason₀ ram₀) input old i j 1 (state kind s last ram) reply
-      hungry h = turns.hungry does due (held ram₀ Any) t (rw step_is (taking-takes kind last ram x)) h
+      hungry h = turn-hungry t (rw step_is (taking-takes kind last ram x)) h
 
     module _ (x : Sending) (e : a ≡ Send x) where
       sends-so : SendsSo x s
@@ -67,7 +65,7 @@ module _ {kind : Kind} {first : Step} {reason₀ : ℕ} {ram₀ input old : List
       sent h = h.is kind s sends-so
 
       pub choked : length reply ≤ j → Acted receiver (state kind first reason₀ ram₀) input old i j 2 (state kind s last ram) reply
-      choked h = turns.choked does due (held ram₀ Any) t (sending-sends kind last ram x s sends-so) h
+      choked h = turn-choked t (sending-sends kind last ram x s sends-so) (omega arith) h
 
     pub halts : a ≡ Halt → Acted receiver (state kind first reason₀ ram₀) input old i j 3 (state kind s last ram) reply
-    halts e = turns.halts does due (held ram₀ Any) t (ap (λ (d : Does ℕ State). need_of d) ((rw e at asked).is kind last ram))
+    halts e = turn-halts t (ap (λ (d : Does ℕ State). need_of d) ((rw e at asked).is kind last ram))

@@ -11,8 +11,8 @@ use Rattle.rom_flow.specs.declared.ask.Taking.{Taking}
 use Rattle.rom_flow.specs.declared.ask.Taking.TheVariants as taking
 use Rattle.rom_flow.specs.declared.ask.Sending.{Sending}
 use Rattle.rom_flow.specs.declared.ask.Sending.TheVariants.{Byte, Xor}
-use Rattle.rom_flow.specs.declared.ask.Ask.{Ask}
-use Rattle.rom_flow.specs.declared.ask.Ask.TheVariants.{Take, Send, Halt}
+use Rattle.machine.specs.declared.ask.Ask.{Ask}
+use Rattle.machine.specs.declared.ask.Ask.TheVariants.{Take, Send, Halt}
 use Rattle.rom_flow.specs.State.{state}
 use Rattle.rom_flow.specs.Flow.{goes, does_at}
 use Rattle.rom_flow.specs.Receiver.{receiver}
@@ -40,7 +40,7 @@ InRam (Xor total) size = total ≤ size
 pub record Halts (step : Step) : Type 0 where
   pub is : (kind : Kind) (reason : ℕ) (ram : List ℕ) → does_at kind reason ram step ≡ runs
 
-abbrev pub Asked : Ask → Step → Type 0
+abbrev pub Asked : Ask Taking Sending → Step → Type 0
 Asked (Take t) step = step ≡ step_of t
 Asked (Send t) step = SendsSo t step
 Asked Halt step = Halts step

@@ -2,6 +2,7 @@
 ghost use Rattle.rom_flow.specs.Ask.{Asked};
 
 use crate::step::{HeaderStep, Step};
+use machine::ask::Ask;
 use wire::line::{ACK, NAK, STX};
 
 // A byte of a header; code bytes, with the code's length and the next place; the byte after the XOR.
@@ -19,15 +20,7 @@ pub enum Sending {
     Xor(u32),
 }
 
-// Bytes to take, something to send, or nothing since code runs.
-#[derive(Clone, Copy)]
-pub enum Ask {
-    Take(Taking),
-    Send(Sending),
-    Halt,
-}
-
-pub fn ask_of(step: Step) -> Ask
+pub fn ask_of(step: Step) -> Ask<Taking, Sending>
     ensures { Asked result step }
 {
     match step {

@@ -1,6 +1,7 @@
 -- The turns of the session's loop, by what was asked.
 -- Assumes nothing.
 use Prim.Native.Nat.{ℕ, ◌≤◌}
+use native.Mathlib.Omega.{arith}
 use mathlib.Core.Path.{◌≡◌, ap}
 use mathlib.Core.List.{List}
 use lib.ListN.{length}
@@ -8,18 +9,15 @@ use Rattle.machine.specs.Does.{Does, need_of}
 use Rattle.machine.specs.Lawful.{Any}
 use Rattle.machine.specs.Loop.{Acted}
 use Rattle.machine.specs.Steps.{Taken, Sent}
-use Rattle.machine.proofs.Turns.{Turn}
-use Rattle.machine.proofs.Turns as turns
+use Rattle.machine.proofs.Turns.{Turn, turn-begins, turn-hungry, turn-choked, turn-halts}
 use Rattle.memory.specs.Memories.{Memories}
 use Rattle.uartboot_flow.specs.declared.step.Step.{Step}
 use Rattle.machine.specs.declared.step.Moved.{Moved}
 use Rattle.uartboot_flow.specs.declared.ask.Taking.{Taking}
 use Rattle.uartboot_flow.specs.declared.ask.Sending.{Sending}
-use Rattle.uartboot_flow.specs.declared.ask.Ask.{Ask}
-use Rattle.uartboot_flow.specs.declared.ask.Ask.TheVariants.{Take, Send, Halt}
+use Rattle.machine.specs.declared.ask.Ask.{Ask}
+use Rattle.machine.specs.declared.ask.Ask.TheVariants.{Take, Send, Halt}
 use Rattle.uartboot_flow.specs.State.{State, state}
-use Rattle.uartboot_flow.specs.Flow.{does}
-use Rattle.uartboot_flow.specs.Due.{due}
 use Rattle.uartboot_flow.specs.Device.{device}
 use Rattle.uartboot_flow.specs.Sound.{Ready}
 use Rattle.uartboot_flow.specs.Ask.{step_of, SendsSo, ReadyTo, Asked, SentSo}
@@ -33,10 +31,10 @@ At first reason₀ m₀ input old s last m reply i j = Turn device (Held m₀) (
 
 module _ {first : Step} {reason₀ : ℕ} {m₀ : Memories} {input old : List ℕ} where
   pub begins : Ready first m₀ → At first reason₀ m₀ input old first reason₀ m₀ old 0 0
-  begins h = turns.begins does due (held m₀ Any) (record { ready = h; same = same-lengths m₀ })
+  begins h = turn-begins {m = device} (λ s a. refl) (held m₀ Any) (record { ready = h; same = same-lengths m₀ })
 
   module _ {s : Step} {last : ℕ} {m : Memories} {reply : List ℕ} {i j : ℕ} (t : At first reason₀ m₀ input old s last m reply i j) where
-    module _ (a : Ask) (asked : Asked a s) where
+    module _ (a : Ask Taking Sending) (asked : Asked a s) where
       module _ (x : Taking) (e : a ≡ Take x) where
         step_is : s ≡ step_of x
         step_is = rw e at asked
@@ -48,7 +46,7 @@ module _ {first : Step} {reason₀ : ℕ} {m₀ : Memories} {input old : List �
         taken h = rw step_is h
 
         pub hungry : length input ≤ i → Acted device (state first reason₀ m₀) input old i j 1 (state s last m) reply
-        hungry h = turns.hungry does due (held m₀ Any) t (rw step_is (taking-takes last m x)) h
+        hungry h = turn-hungry t (rw step_is (taking-takes last m x)) h
 
       module _ (x : Sending) (e : a ≡ Send x) where
         sends-so : SendsSo x s
@@ -62,7 +60,7 @@ module _ {first : Step} {reason₀ : ℕ} {m₀ : Memories} {input old : List �
         sent h = h.is s sends-so
 
         pub choked : length reply ≤ j → Acted device (state first reason₀ m₀) input old i j 2 (state s last m) reply
-        choked h = turns.choked does due (held m₀ Any) t (sending-sends last m x s sends-so) h
+        choked h = turn-choked t (sending-sends last m x s sends-so) (omega arith) h
 
       pub halts : a ≡ Halt → Acted device (state first reason₀ m₀) input old i j 3 (state s last m) reply
-      halts e = turns.halts does due (held m₀ Any) t (ap (λ (d : Does ℕ State). need_of d) ((rw e at asked).is last m))
+      halts e = turn-halts t (ap (λ (d : Does ℕ State). need_of d) ((rw e at asked).is last m))

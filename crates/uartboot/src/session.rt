@@ -1,43 +1,24 @@
 // The session: the loop over its turns, and the call.
 ghost use Rattle.std.specs.Prelude.{◌≡◌};
-ghost use Rattle.machine.specs.Loop.{Acted};
 ghost use Rattle.machine.specs.Session.{result_of};
+ghost use Rattle.machine.specs.Stop.{ActedTo};
 ghost use Rattle.memory.specs.Memories.{memories};
 ghost use Rattle.uartboot_flow.specs.State.{state};
 ghost use Rattle.uartboot_flow.specs.Device.{device};
 ghost use Rattle.uartboot_flow.specs.Sound.{Ready};
 ghost use Rattle.uartboot.specs.Session.{refusal_of, uartboot, given_back};
 
-use machine::{BAD_RECORD, Record, Report, advance, refused};
-use uartboot_flow::ask::{Ask, ask_of};
+use machine::ask::Ask;
+use machine::stop::{Place, Standing, Stop};
+use machine::{BAD_RECORD, Record, Report, refused};
+use uartboot_flow::ask::ask_of;
 use uartboot_flow::step::Step;
 use uartboot_record::{decode, encode};
 use uartboot_turn::{send, take};
 use wire::length::{BAD_FLASH, BAD_RAM, BAD_WORK, is_flash_length, is_ram_length, is_work_length};
 
-// Where the actions stopped: waiting for a byte (1) or for room (2), or code runs (3).
-#[derive(Clone, Copy)]
-struct Stop {
-    step: Step,
-    reason: u32,
-    taken: usize,
-    sent: usize,
-    standing: u32,
-}
-
-fn stopped(step: Step, reason: u32, taken: usize, sent: usize, standing: u32) -> Stop
-    ensures { result ≡ record { step = step; reason = reason; taken = taken; sent = sent; standing = standing } }
-{
-    Stop {
-        step: step,
-        reason: reason,
-        taken: taken,
-        sent: sent,
-        standing: standing,
-    }
-}
-
 // Acts until a byte or room is missing, or code runs.
+// One loop per session: in a trait the memories would be `&mut` fields, and its clauses on their names are longer than the loop.
 fn act(
     first: Step,
     reason: u32,
@@ -46,36 +27,29 @@ fn act(
     ram: &mut [u8],
     flash: &mut [u8],
     work: &mut [u8],
-) -> Stop
+) -> Stop<Step>
     requires { Ready first (memories ram.old flash.old work.old) }
-    ensures { Acted device (state first reason (memories ram.old flash.old work.old)) input.now reply.old result.taken result.sent result.standing (state result.step result.reason (memories ram.new flash.new work.new)) reply.new }
+    ensures { ActedTo device (state first reason (memories ram.old flash.old work.old)) input.now reply.old result (state result.at.step result.at.reason (memories ram.new flash.new work.new)) reply.new }
 {
-    let mut step = first;
-    let mut noted = reason;
-    let mut i: usize = 0;
-    let mut j: usize = 0;
+    let mut at = Place::start(first, reason);
     loop {
-        match ask_of(step) {
+        match ask_of(at.step) {
             Ask::Take(taking) => {
-                if i >= input.len() {
-                    return stopped(step, noted, i, j, 1);
+                if at.taken >= input.len() {
+                    return at.stop(Standing::NeedsByte);
                 }
-                let after = take(taking, noted, input, i, ram, flash, work);
-                step = after.step;
-                noted = after.reason;
-                i = advance(i, after.count, input.len());
+                let moved = take(taking, at.reason, input, at.taken, ram, flash, work);
+                at.add_taken(moved, input.len());
             }
             Ask::Send(sending) => {
-                if j >= reply.len() {
-                    return stopped(step, noted, i, j, 2);
+                if at.sent >= reply.len() {
+                    return at.stop(Standing::NeedsRoom);
                 }
-                let after = send(sending, noted, reply, j, ram, flash, work);
-                step = after.step;
-                noted = after.reason;
-                j = advance(j, after.count, reply.len());
+                let moved = send(sending, at.reason, reply, at.sent, ram, flash, work);
+                at.add_sent(moved, reply.len());
             }
             Ask::Halt => {
-                return stopped(step, noted, i, j, 3);
+                return at.stop(Standing::Ended);
             }
         }
     }
@@ -115,14 +89,7 @@ pub fn call(
     match decode(ram.len(), work.len(), session) {
         Some(step) => {
             let end = act(step, session.reason, input, reply, ram, flash, work);
-            let reached = end.step;
-            Report {
-                number: 0,
-                standing: end.standing,
-                taken: end.taken,
-                sent: end.sent,
-                session: encode(reached, end.reason),
-            }
+            end.report(encode(end.at.step, end.at.reason))
         }
         None => refused(BAD_RECORD, session),
     }

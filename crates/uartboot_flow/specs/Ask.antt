@@ -9,8 +9,8 @@ use Rattle.machine.specs.declared.step.Moved.{Moved}
 use Rattle.uartboot_flow.specs.declared.step.Step.TheVariants.{Header, Command, Answer}
 use Rattle.uartboot_flow.specs.declared.step.CommandStep.TheVariants.{SendAck, TakePayload, SendCrcLow, SendCrcHigh, TakeGo}
 use Rattle.uartboot_flow.specs.declared.step.AnswerStep.TheVariants as a
-use Rattle.uartboot_flow.specs.declared.ask.Ask.{Ask}
-use Rattle.uartboot_flow.specs.declared.ask.Ask.TheVariants.{Take, Send, Halt}
+use Rattle.machine.specs.declared.ask.Ask.{Ask}
+use Rattle.machine.specs.declared.ask.Ask.TheVariants.{Take, Send, Halt}
 use Rattle.uartboot_flow.specs.declared.ask.Taking.{Taking}
 use Rattle.uartboot_flow.specs.declared.ask.Taking.TheVariants as taking
 use Rattle.uartboot_flow.specs.declared.ask.Sending.{Sending}
@@ -44,7 +44,7 @@ SendsSo (sending.Crc opcode size) step = step ≡ Command opcode size SendCrcLow
 SendsSo (sending.CrcHigh opcode size) step = step ≡ Command opcode size SendCrcHigh
 SendsSo (sending.Answer opcode size place) step = step ≡ Answer opcode size (a.SendAnswer place)
 
-abbrev pub Asked : Ask → Step → Type 0
+abbrev pub Asked : Ask Taking Sending → Step → Type 0
 Asked (Take t) step = step ≡ step_of t
 Asked (Send t) step = SendsSo t step
 Asked Halt step = Halts step

@@ -4,6 +4,7 @@ ghost use Rattle.uartboot_flow.specs.Ask.{Asked};
 
 use crate::kind::{Uartboot, greeting_byte};
 use crate::step::{AnswerStep, CommandStep, HeaderStep, Step};
+use machine::ask::Ask;
 use numbers::{high_byte, low_byte};
 use opcodes::Opcode;
 use wire::line::{ACK, NAK};
@@ -31,15 +32,7 @@ pub enum Sending {
     Answer(Opcode, u32, u32),
 }
 
-// Bytes to take, something to send, or nothing since code runs.
-#[derive(Clone, Copy)]
-pub enum Ask {
-    Take(Taking),
-    Send(Sending),
-    Halt,
-}
-
-fn ask_greeting(place: u32) -> Ask
+fn ask_greeting(place: u32) -> Ask<Taking, Sending>
     ensures { Asked result (Step.Greeting place) }
 {
     let byte = greeting_byte(place);
@@ -50,7 +43,7 @@ fn ask_greeting(place: u32) -> Ask
     }
 }
 
-fn ask_command(opcode: Opcode, size: u32, step: CommandStep) -> Ask
+fn ask_command(opcode: Opcode, size: u32, step: CommandStep) -> Ask<Taking, Sending>
     ensures { Asked result (Step.Command opcode size step) }
 {
     match step {
@@ -66,13 +59,13 @@ fn ask_command(opcode: Opcode, size: u32, step: CommandStep) -> Ask
 }
 
 // A byte of an answer's length, and the step of the answer that follows.
-fn say(byte: u8, opcode: Opcode, size: u32, next: AnswerStep) -> Ask
+fn say(byte: u8, opcode: Opcode, size: u32, next: AnswerStep) -> Ask<Taking, Sending>
     ensures { result ≡ Ask.Send (Sending.Byte byte (Step.Answer opcode size next)) }
 {
     Ask::Send(Sending::Byte(byte, Step::Answer(opcode, size, next)))
 }
 
-fn ask_answer(opcode: Opcode, size: u32, step: AnswerStep) -> Ask
+fn ask_answer(opcode: Opcode, size: u32, step: AnswerStep) -> Ask<Taking, Sending>
     ensures { Asked result (Step.Answer opcode size step) }
 {
     match step {
@@ -88,7 +81,7 @@ fn ask_answer(opcode: Opcode, size: u32, step: AnswerStep) -> Ask
     }
 }
 
-pub fn ask_of(step: Step) -> Ask
+pub fn ask_of(step: Step) -> Ask<Taking, Sending>
     ensures { Asked result step }
 {
     match step {

@@ -14,6 +14,7 @@ use uartboot_answer::answer::send_answer;
 use uartboot_answer::host::{took_answer_go, took_crc_high, took_crc_low};
 use uartboot_execution::{accept, take_go};
 use uartboot_flow::ask::{Sending, Taking};
+use uartboot_flow::step::Step;
 use uartboot_header::took_header;
 use uartboot_payload::checksum::{send_crc, send_crc_high};
 use uartboot_payload::payload::take_payload;

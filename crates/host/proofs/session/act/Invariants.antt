@@ -6,7 +6,7 @@ use Rattle.host.proofs.Turns.{At}
 use Rattle.host.proofs.session.act.Given as goal
 
 abbrev pub invariant-loop-taking : goal.invariant-loop-taking
-invariant-loop-taking l = At l.x l.initial.step l.initial.noted l.payload l.initial.answer l.input l.initial.output l.step l.noted l.answer l.output l.i l.j
+invariant-loop-taking l = At l.x l.fn.first l.fn.reason l.payload l.initial.answer l.input l.initial.output l.at.step l.at.reason l.answer l.output l.at.taken l.at.sent
 
 abbrev pub decreases-loop-taking : goal.decreases-loop-taking
-decreases-loop-taking l = length l.input - l.i + (length l.output - l.j)
+decreases-loop-taking l = length l.input - l.at.taken + (length l.output - l.at.sent)

@@ -16,4 +16,4 @@ pub returns-in-None : goal.returns-in-None
 returns-in-None c = bad-record _ _ _ _ _ _ (sym c.judge.ensures ∙ c.in-Accepted.is) (sym c.decode.ensures ∙ c.in-None.is) c.refused-in-None.ensures
 
 pub returns-in-Some : goal.returns-in-Some
-returns-in-Some c = went _ _ _ _ (sym c.judge.ensures ∙ c.in-Accepted.is) _ _ _ _ _ (sym c.decode.ensures ∙ c.in-Some.is) _ _ _ _ _ _ _ c.act-end.ensures (rw c.encode.ensures refl)
+returns-in-Some c = went _ _ _ _ (sym c.judge.ensures ∙ c.in-Accepted.is) _ _ _ _ _ (sym c.decode.ensures ∙ c.in-Some.is) _ _ _ _ _ _ _ c.act-end.ensures (rw (c.report.ensures, c.encode.ensures) refl)

@@ -6,7 +6,7 @@ use Prim.Native.Nat.{◌+◌, ◌-◌}
 use Rattle.rom.proofs.session.act.Given as goal
 
 abbrev pub invariant-loop-taking : goal.invariant-loop-taking
-invariant-loop-taking l = At l.kind l.initial.step l.initial.noted l.initial.ram l.input l.initial.reply l.step l.noted l.ram l.reply l.i l.j
+invariant-loop-taking l = At l.kind l.fn.first l.fn.reason l.initial.ram l.input l.initial.reply l.at.step l.at.reason l.ram l.reply l.at.taken l.at.sent
 
 abbrev pub decreases-loop-taking : goal.decreases-loop-taking
-decreases-loop-taking l = length l.input - l.i + (length l.reply - l.j)
+decreases-loop-taking l = length l.input - l.at.taken + (length l.reply - l.at.sent)

@@ -24,7 +24,7 @@ act-end-requires c =
 pub returns-in-Some : goal.returns-in-Some
 returns-in-Some c =
     good _ _ _ _ _ (sym c.is_ram_length.ensures ∙ c.if-not-is_ram_length.false) _ _ (sym c.decode.ensures ∙ c.in-Some.is)
-    _ _ _ _ _ _ _ c.act-end.ensures (rw c.encode.ensures refl)
+    _ _ _ _ _ _ _ c.act-end.ensures (rw (c.report.ensures, c.encode.ensures) refl)
 
 pub returns-in-None : goal.returns-in-None
 returns-in-None c =

@@ -7,7 +7,7 @@ use Prim.Native.Nat.{◌+◌, ◌-◌}
 use Rattle.uartboot.proofs.session.act.Given as goal
 
 abbrev pub invariant-loop-taking : goal.invariant-loop-taking
-invariant-loop-taking l = At l.initial.step l.initial.noted (memories l.initial.ram l.initial.flash l.initial.work) l.input l.initial.reply l.step l.noted (memories l.ram l.flash l.work) l.reply l.i l.j
+invariant-loop-taking l = At l.fn.first l.fn.reason (memories l.initial.ram l.initial.flash l.initial.work) l.input l.initial.reply l.at.step l.at.reason (memories l.ram l.flash l.work) l.reply l.at.taken l.at.sent
 
 abbrev pub decreases-loop-taking : goal.decreases-loop-taking
-decreases-loop-taking l = length l.input - l.i + (length l.reply - l.j)
+decreases-loop-taking l = length l.input - l.at.taken + (length l.reply - l.at.sent)

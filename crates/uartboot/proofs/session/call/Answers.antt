@@ -19,7 +19,7 @@ act-end-requires c =
 pub returns-in-Some : goal.returns-in-Some
 returns-in-Some c =
     good _ _ _ _ _ (sym c.refusal-number.ensures ∙ c.if-number-ne0.false) _ (sym c.decode.ensures ∙ c.in-Some.is) _ _ _ _ _ _ _
-    c.act-end.ensures (rw c.encode.ensures refl)
+    c.act-end.ensures (rw (c.report.ensures, c.encode.ensures) refl)
 
 pub returns-in-None : goal.returns-in-None
 returns-in-None c =
