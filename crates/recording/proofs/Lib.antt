@@ -1,3 +1,4 @@
+pub mod Faults
 pub mod Entries
 pub mod Places
 pub mod Runs
