@@ -57,8 +57,11 @@ module _ (file : List ℕ) (e : fault_of (recording_of file) ≡ 0) where
   pub file-entries : recording_of file ≡ entries_of (drop head_length file)
   file-entries = head-good file good-head
 
-  pub readable-file : Readable file head_length
-  readable-file = record { inside = head-inside file good-head; no_fault = sym (ap fault_of file-entries) ∙ e }
+  pub file-inside : head_length ≤ length file
+  file-inside = head-inside file good-head
+
+  pub readable-file : Readable (drop head_length file)
+  readable-file = record { no_fault = sym (ap fault_of file-entries) ∙ e }
 
   pub file-reads : Reads (entries_of (drop head_length file))
   file-reads = reads_of (drop head_length file) readable-file.no_fault

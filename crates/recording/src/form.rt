@@ -109,12 +109,13 @@ fn past_head<'a>(file: &'a [u8]) -> Result<&'a [u8], Fault>
     Ok(&file[HEAD..])
 }
 
-// The length of the entry that begins at a place.
-pub fn size_at(file: &[u8], place: usize) -> usize
-    requires { place + entry_head ≤ length file.now }
-    ensures { result ≡ size_in (drop place file.now) }
+// How many bytes of its own the entry has that these bytes begin with.
+#[tactic(auto, unfolding(crate::specs::Form::size_in))]
+pub fn size_in(bytes: &[u8]) -> usize
+    requires { entry_head ≤ length bytes.now }
+    ensures { result ≡ size_in bytes.now }
 {
-    number16_at(file, place + 1) as usize
+    number16_at(bytes, 1) as usize
 }
 
 // What follows the entry that these bytes begin with.
@@ -127,8 +128,9 @@ fn past_entry<'a>(bytes: &'a [u8]) -> Result<&'a [u8], Fault>
     if bytes.len() < ENTRY_HEAD {
         return Err(Fault::CutShort);
     }
-    let size = size_at(bytes, 0);
-    bytes[ENTRY_HEAD..].get(size..).ok_or(Fault::CutShort)
+    bytes[ENTRY_HEAD..]
+        .get(size_in(bytes)..)
+        .ok_or(Fault::CutShort)
 }
 
 // What is wrong first in a file.

@@ -1,12 +1,12 @@
 -- `recording::form::check`: what is wrong from here on is what is wrong with the file.
 -- Assumes nothing.
-use Rattle.std.proofs.Common.{ℕ, ◌<◌, length, sym, ap, ◌∙◌, ◌≡◌, arith}
+use Rattle.std.proofs.Common.{ℕ, ◌<◌, ◌≤◌, length, sym, ap, ◌∙◌, ◌≡◌, arith}
 use Rattle.std.proofs.lemmas.Result.{err_from_is_err_and}
 use Rattle.std.proofs.lemmas.Bool.Decides.{nat_tests}
 use Rattle.recording.specs.Recording.{entries_of, fault_of}
 use Rattle.recording.proofs.Faults.{fault-some}
-use Rattle.recording.proofs.Entries.{fault-here, fault-later}
-use Rattle.recording.proofs.Places.{none-at-end}
+use Rattle.recording.proofs.Entries.{no-entries, fault-here, fault-later}
+use Rattle.recording.proofs.Runs.{empty}
 use Rattle.recording.proofs.Files.{head-bad, head-good}
 use Rattle.recording.proofs.form.check.Goals as goal
 
@@ -33,5 +33,5 @@ loop-rest-preserved c =
 
 pub returns : goal.returns
 returns c =
-    let none : length c.loop-rest.rest.now ≡ 0 = grind (arith, nat_tests) in
-    sym (c.loop-rest.invariant ∙ ap fault_of (none-at-end c.loop-rest.rest.now 0 (omega (arith, none))))
+    let none : length c.loop-rest.rest.now ≤ 0 = grind (arith, nat_tests) in
+    sym (c.loop-rest.invariant ∙ ap (λ bytes. fault_of (entries_of bytes)) (empty c.loop-rest.rest.now none) ∙ ap fault_of no-entries)

@@ -18,4 +18,4 @@ returns-then-bytes-lt-ENTRY_HEAD-clause-fault c =
 pub returns-clause-fault : goal.returns-clause-fault
 returns-clause-fault c =
     let known = some-kind (get_or c.args.bytes.now 0 0) c.in_ok-try_from.field-0 c.in_ok-try_from.ensures in
-    rw c.ok_or.ensures.value (fault-past c.args.bytes.now known c.if-bytes-lt-ENTRY_HEAD.false c.size_at-size.result c.size_at-size.ensures c.get.result c.get.ensures.lookup)
+    rw c.ok_or.ensures.value (fault-past c.args.bytes.now known c.if-bytes-lt-ENTRY_HEAD.false c.size_in.result c.size_in.ensures c.get.result c.get.ensures.lookup)
