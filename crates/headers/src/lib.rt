@@ -10,7 +10,7 @@ use crc::crc32::crc_of;
 use image::rule::{IMAGE_MARK, LARGEST, VALID_FLAG};
 use image::{HEADER, MARK};
 use memory::store::lay;
-use numbers::put::put32;
+use numbers::put::put;
 use slot::product::{PRODUCT, PRODUCT_MARK};
 use version::rank::{MALFORMED, rank};
 
@@ -41,8 +41,8 @@ pub fn product_header(first: u32, second: u32) -> ProductHeader
     let mut bytes = [0u8; PRODUCT];
     bytes[0] = MARK;
     bytes[1] = PRODUCT_MARK;
-    put32(&mut bytes, 4, first);
-    put32(&mut bytes, 8, second);
+    put::<4>(&mut bytes, 4, first);
+    put::<4>(&mut bytes, 8, second);
     ProductHeader { bytes: bytes }
 }
 
@@ -65,9 +65,9 @@ fn header_bytes(id: u8, size: u32, crc: u32, version: &[u8], time: u32) -> [u8; 
     bytes[1] = IMAGE_MARK;
     bytes[2] = VALID_FLAG;
     bytes[3] = id;
-    put32(&mut bytes, 4, size);
-    put32(&mut bytes, 8, crc);
-    put32(&mut bytes, 28, time);
+    put::<4>(&mut bytes, 4, size);
+    put::<4>(&mut bytes, 8, crc);
+    put::<4>(&mut bytes, 28, time);
     lay(&mut bytes[12..], version);
     bytes
 }

@@ -9,7 +9,7 @@ ghost use Rattle.image.specs.Header.{is_marked, version_place, version_length, h
 ghost use Rattle.image.specs.Valid.{image_at};
 
 use crate::rule::{first_broken, number_of};
-use numbers::number32_at;
+use numbers::number_at;
 use wire::range::place_in;
 
 // How many bytes an image header has; the code begins there.
@@ -45,7 +45,7 @@ pub fn image_at(memory: &[u8], offset: usize) -> Image
         return Image::Invalid;
     };
     if number_of(first_broken(memory, offset)) == 0 {
-        Image::Valid(memory[offset + 3], number32_at(memory, offset + 4) as usize)
+        Image::Valid(memory[offset + 3], number_at::<4>(memory, offset + 4) as usize)
     } else {
         Image::Invalid
     }

@@ -5,7 +5,7 @@ ghost use Rattle.image.specs.Rule.{rule_number, first_broken};
 
 use crate::{HEADER, is_marked};
 use crc::crc32::crc_of;
-use numbers::number32_at;
+use numbers::number_at;
 
 // The mark of an image header is 70 and this byte.
 pub const IMAGE_MARK: u8 = 0x51;
@@ -60,7 +60,7 @@ pub fn first_broken(memory: &[u8], offset: usize) -> Rule
     if memory[offset + 2] != VALID_FLAG {
         return Rule::Flag;
     }
-    let size = number32_at(memory, offset + 4) as usize;
+    let size = number_at::<4>(memory, offset + 4) as usize;
     if size == 0 {
         return Rule::Size;
     }
@@ -74,7 +74,7 @@ pub fn first_broken(memory: &[u8], offset: usize) -> Rule
     if memory[offset + 32] != 0 {
         return Rule::Encrypted;
     }
-    if crc_of(&memory[code..code + size]) != number32_at(memory, offset + 8) {
+    if crc_of(&memory[code..code + size]) != number_at::<4>(memory, offset + 8) {
         return Rule::Crc;
     }
     Rule::Nothing

@@ -4,7 +4,7 @@ ghost use Rattle.inspect.specs.Image.{read_image};
 
 use image::HEADER;
 use image::rule::{Rule, first_broken, number_of};
-use numbers::number32_at;
+use numbers::number_at;
 use wire::range::place_in;
 
 // Where the version's field begins in the header.
@@ -38,7 +38,7 @@ pub fn read_image(memory: &[u8], offset: u32) -> ImageRead
     ImageRead {
         rule: number_of(first_broken(memory, start)),
         id: memory[start + 3] as u32,
-        size: number32_at(memory, start + 4),
+        size: number_at::<4>(memory, start + 4),
         version_place: start + VERSION,
         code_place: start + HEADER,
     }

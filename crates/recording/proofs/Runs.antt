@@ -105,28 +105,6 @@ found_none {kind} {entries} {rest} f none =
       left_is = ap (λ bytes. bytes ++ left_from (kind_number kind) rest.now) none ∙ f.same;
     }
 
--- past some bytes of a run
-module _ (run : Run) (is : IsRun run) (count : ℕ) (fits : count ≤ length run.bytes.now) where
-  abbrev left : List ℕ
-  left = left_from (kind_number run.kind) run.after.now
-
-  pub within-run : (bytes : Bor (List ℕ)) → bytes.now ≡ drop count run.bytes.now → (bytes.now ≡ [] → ⊥) →
-      Leaves run.kind (drop count (left_in run)) (record run { bytes = bytes })
-  within-run bytes e n =
-      record {
-        is_run = record { readable = is.readable; at_end = λ none. absurd (n none) };
-        same_kind = refl;
-        left_is = rw e (sym (drop-append-le count run.bytes.now left fits));
-      }
-
-  pub after_run : drop count run.bytes.now ≡ [] → (next : Run) → Leaves run.kind left next → Leaves run.kind (drop count (left_in run)) next
-  after_run e next l =
-      record {
-        is_run = l.is_run;
-        same_kind = l.same_kind;
-        left_is = l.left_is ∙ sym (drop-append-le count run.bytes.now left fits ∙ ap (λ bytes. bytes ++ left) e);
-      }
-
 -- the first byte that is left, and that none is
 module _ (run : Run) where
   pub first-left : 0 < length run.bytes.now → left_in run ≡ get_or run.bytes.now 0 0 ∷ drop 1 (left_in run)

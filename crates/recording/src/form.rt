@@ -5,7 +5,7 @@ ghost use Rattle.recording.specs.Form.{mark, head_length, head_fault, kind_numbe
 ghost use Rattle.recording.specs.Recording.{recording_of, fault_of};
 
 use memory::compare::is_front;
-use numbers::{number16_at, read16};
+use numbers::{number_at, read_at};
 
 // What is wrong with a file.
 #[derive(Clone, Copy, Debug, PartialEq, Eq)]
@@ -86,24 +86,15 @@ pub const HEAD: usize = 5;
 // How many bytes an entry has before its own.
 pub const ENTRY_HEAD: usize = 3;
 
-fn has_mark(file: &[u8]) -> bool
-    ensures { result ≡ is_front mark file.now }
-{
-    if file.len() < MARK.len() {
-        return false;
-    }
-    is_front(&MARK, file)
-}
-
 // What follows the head.
 fn past_head<'a>(file: &'a [u8]) -> Result<&'a [u8], Fault>
     ensures fault { number_of result ≡ head_fault file.now }
     ensures past { IfOk result (λ rest. rest.now ≡ drop head_length file.now) }
 {
-    if !has_mark(file) {
+    if !is_front(&MARK, file) {
         return Err(Fault::BadMark);
     }
-    if read16(file, MARK.len()) != Some(VERSION) {
+    if read_at::<2>(file, MARK.len()) != Some(VERSION) {
         return Err(Fault::BadVersion);
     }
     Ok(&file[HEAD..])
@@ -115,7 +106,7 @@ pub fn size_in(bytes: &[u8]) -> usize
     requires { entry_head ≤ length bytes.now }
     ensures { result ≡ size_in bytes.now }
 {
-    number16_at(bytes, 1) as usize
+    number_at::<2>(bytes, 1) as usize
 }
 
 // What follows the entry that these bytes begin with.

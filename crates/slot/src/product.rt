@@ -3,7 +3,7 @@ ghost use Rattle.std.specs.Prelude.{◌≡◌};
 ghost use Rattle.slot.specs.Product.{product_at};
 
 use image::is_marked;
-use numbers::number32_at;
+use numbers::number_at;
 use wire::length::{BAD_FLASH, is_flash_length};
 use wire::unit::FlashOffset;
 
@@ -42,5 +42,8 @@ pub fn product_at(flash: &[u8], offset: u32) -> Product
     if !is_marked(flash, start, PRODUCT_MARK) {
         return Product::Refused(WRONG_MARK);
     }
-    Product::Images(number32_at(flash, start + 4), number32_at(flash, start + 8))
+    Product::Images(
+        number_at::<4>(flash, start + 4),
+        number_at::<4>(flash, start + 8),
+    )
 }

@@ -7,7 +7,7 @@ use mathlib.Core.Bool.{Bool, true, false, ◌&&◌, cond}
 use native.Mathlib.Nat.{zero-add}
 use native.Mathlib.Omega.{arith}
 use lib.Dec.{leb}
-use borrow.Author.Tests.{le-leb, lt-leb, leb-true}
+use borrow.Author.Tests.{le-leb, leb-true}
 use borrow.Table.Steps.{cases}
 use Rattle.wire.specs.Range.{lies_in, place_in}
 
@@ -15,18 +15,6 @@ module _ (start count base length : ℕ) where
   pub range_inside : base ≤ start → start + count ≤ base + length → place_in start count base length ≡ Some (start - base)
   unfolding lies_in place_in
   range_inside h k = rw (le-leb base start h, le-leb (start + count) (base + length) k)
-
-  pub range-before : start < base → place_in start count base length ≡ None
-  unfolding lies_in place_in
-  range-before h = rw (lt-leb base start h)
-
-  pub range-beyond : base + length < start + count → place_in start count base length ≡ None
-  unfolding lies_in place_in
-  range-beyond h = rw (lt-leb (start + count) (base + length) h) (neither (leb base start))
-    where
-      neither : (b : Bool) → cond (b && false) (Some (start - base)) None ≡ None
-      neither true = refl
-      neither false = refl
 
   -- what a judgement says
   pub range-known : (place : ℕ) → place_in start count base length ≡ Some place

@@ -36,8 +36,8 @@ overflow_add-offset c =
     let inside : c.args.offset + header_length ≤ length c.args.memory.now = lies-fits _ _ _ (lies-inside c.args.offset header_length 0 (length c.args.memory.now) c.in-Some.field-0 (sym c.place_in.ensures ∙ c.in-Some.is)) in
     omega (arith, inside)
 
-pub number32_at-requires : goal.number32_at-requires
-number32_at-requires c =
+pub number_at-requires-clause-there : goal.number_at-requires-clause-there
+number_at-requires-clause-there c =
     let inside : c.args.offset + header_length ≤ length c.args.memory.now = lies-fits _ _ _ (lies-inside c.args.offset header_length 0 (length c.args.memory.now) c.in-Some.field-0 (sym c.place_in.ensures ∙ c.in-Some.is)) in
     omega (arith, inside)
 
@@ -45,7 +45,7 @@ pub returns-then-number_of-eq0 : goal.returns-then-number_of-eq0
 unfolding image_at is_valid
 returns-then-number_of-eq0 c =
     let rule = c.number_of.ensures ∙ ap rule_number c.first_broken.ensures in
-    simp (eq-eqb _ _ (sym rule ∙ c.if-number_of-eq0.true), c.number32_at.ensures)
+    simp (eq-eqb _ _ (sym rule ∙ c.if-number_of-eq0.true), c.number_at.ensures)
 
 pub returns-else-number_of-eq0 : goal.returns-else-number_of-eq0
 unfolding image_at is_valid

@@ -40,8 +40,8 @@ offset_at-requires c =
 pub offset_at-requires-in-Erase : goal.offset_at-requires-in-Erase
 offset_at-requires-in-Erase c = omega (arith, long c.in-Erase.is c.requires)
 
-pub number32_at-requires : goal.number32_at-requires
-number32_at-requires c = omega (arith, long c.in-Erase.is c.requires)
+pub number_at-requires-clause-there : goal.number_at-requires-clause-there
+number_at-requires-clause-there c = omega (arith, long c.in-Erase.is c.requires)
 
 pub address_at-requires-in-Run : goal.address_at-requires-in-Run
 address_at-requires-in-Run c = omega (arith, long c.in-Run.is c.requires)
@@ -73,7 +73,7 @@ returns-in-Copy c =
     simp (c.offset_at.ensures, c.count_at-in-Copy.ensures, c.address_at-in-Copy.ensures, c.in-Copy.is)
 
 pub returns-in-Erase : goal.returns-in-Erase
-returns-in-Erase c = simp (c.number32_at.ensures, c.offset_at-in-Erase.ensures, c.in-Erase.is)
+returns-in-Erase c = simp (c.number_at.ensures, c.offset_at-in-Erase.ensures, c.in-Erase.is)
 
 pub returns-in-Run : goal.returns-in-Run
 returns-in-Run c = simp (c.address_at-in-Run.ensures, c.in-Run.is)

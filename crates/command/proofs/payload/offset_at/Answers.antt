@@ -3,4 +3,4 @@
 use Rattle.command.proofs.payload.offset_at.Goals as goal
 
 pub returns : goal.returns
-returns c = simp c.number32_at.ensures
+returns c = simp c.number_at.ensures

@@ -31,8 +31,8 @@ pub overflow_cast-result : goal.overflow_cast-result
 overflow_cast-result c =
     omega (arith, c.type_inv.memory (c.args.offset + 3))
 
-pub number32_at-requires : goal.number32_at-requires
-number32_at-requires c =
+pub number_at-requires-clause-there : goal.number_at-requires-clause-there
+number_at-requires-clause-there c =
     let inside : c.args.offset + header_length ≤ length c.args.memory.now = lies-fits _ _ _ (lies-inside c.args.offset header_length 0 (length c.args.memory.now) c.in-Some.field-0 (sym c.place_in.ensures ∙ c.in-Some.is)) in
     omega (arith, inside)
 
@@ -41,4 +41,4 @@ unfolding read_image
 returns c =
     let inside : c.args.offset + header_length ≤ length c.args.memory.now = lies-fits _ _ _ (lies-inside c.args.offset header_length 0 (length c.args.memory.now) c.in-Some.field-0 (sym c.place_in.ensures ∙ c.in-Some.is)) in
     let number = c.number_of-2.ensures ∙ ap rule_number c.first_broken.ensures in
-    simp (le-leb _ _ inside, number, c.number32_at.ensures)
+    simp (le-leb _ _ inside, number, c.number_at.ensures)

@@ -7,26 +7,26 @@ use Rattle.recording.proofs.Faults.{same-version, no-mark, other-version, good-v
 use Rattle.recording.proofs.Files.{version-inside}
 use Rattle.recording.proofs.form.past_head.Goals as goal
 
-pub returns-then-not-has_mark-clause-fault : goal.returns-then-not-has_mark-clause-fault
-returns-then-not-has_mark-clause-fault c = sym (no-mark c.args.file.now (sym c.has_mark.ensures ∙ c.if-not-has_mark.true))
+pub returns-then-not-is_front-clause-fault : goal.returns-then-not-is_front-clause-fault
+returns-then-not-is_front-clause-fault c = sym (no-mark c.args.file.now (sym c.is_front.ensures ∙ c.if-not-is_front.true))
 
 pub returns-then-ne-clause-fault : goal.returns-then-ne-clause-fault
 returns-then-ne-clause-fault c =
-    let version = sym (same-version c.read16.result) ∙ not-true _ (sym c.ne.ensures ∙ c.if-ne.true) in
-    sym (other-version c.args.file.now (sym c.has_mark.ensures ∙ c.if-not-has_mark.false) (ap is_version (sym c.read16.ensures) ∙ version))
+    let version = sym (same-version c.read_at.result) ∙ not-true _ (sym c.ne.ensures ∙ c.if-ne.true) in
+    sym (other-version c.args.file.now (sym c.is_front.ensures ∙ c.if-not-is_front.false) (ap is_version (sym c.read_at.ensures) ∙ version))
 
 pub slice_bounds-result-count : goal.slice_bounds-result-count
 slice_bounds-result-count c =
-    let version = sym (same-version c.read16.result) ∙ not-false _ (sym c.ne.ensures ∙ c.if-ne.false) in
-    version-inside c.args.file.now (ap is_version (sym c.read16.ensures) ∙ version)
+    let version = sym (same-version c.read_at.result) ∙ not-false _ (sym c.ne.ensures ∙ c.if-ne.false) in
+    version-inside c.args.file.now (ap is_version (sym c.read_at.ensures) ∙ version)
 
 pub slice_bounds-result-start : goal.slice_bounds-result-start
 slice_bounds-result-start c =
-    let version = sym (same-version c.read16.result) ∙ not-false _ (sym c.ne.ensures ∙ c.if-ne.false) in
-    let inside = version-inside c.args.file.now (ap is_version (sym c.read16.ensures) ∙ version) in
+    let version = sym (same-version c.read_at.result) ∙ not-false _ (sym c.ne.ensures ∙ c.if-ne.false) in
+    let inside = version-inside c.args.file.now (ap is_version (sym c.read_at.ensures) ∙ version) in
     search rules
 
 pub returns-clause-fault : goal.returns-clause-fault
 returns-clause-fault c =
-    let version = sym (same-version c.read16.result) ∙ not-false _ (sym c.ne.ensures ∙ c.if-ne.false) in
-    sym (good-version c.args.file.now (sym c.has_mark.ensures ∙ c.if-not-has_mark.false) (ap is_version (sym c.read16.ensures) ∙ version))
+    let version = sym (same-version c.read_at.result) ∙ not-false _ (sym c.ne.ensures ∙ c.if-ne.false) in
+    sym (good-version c.args.file.now (sym c.is_front.ensures ∙ c.if-not-is_front.false) (ap is_version (sym c.read_at.ensures) ∙ version))

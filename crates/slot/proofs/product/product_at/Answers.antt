@@ -31,14 +31,14 @@ returns-then-not-is_marked c =
     let unmarked = sym c.is_marked.ensures ∙ c.if-not-is_marked.true in
     simp (sound, lies, unmarked)
 
-pub number32_at-requires : goal.number32_at-requires
-number32_at-requires c =
+pub number_at-requires-clause-there : goal.number_at-requires-clause-there
+number_at-requires-clause-there c =
     let lies : lies_in c.args.offset product_length 0 (length c.args.flash.now) ≡ true = lies-inside c.args.offset product_length 0 (length c.args.flash.now) c.in-Some.field-0 (sym c.place.ensures ∙ c.in-Some.is) in
     let inside : c.args.offset + product_length ≤ length c.args.flash.now = lies-fits _ _ _ lies in
     omega (arith, inside)
 
-pub number32_at-requires-2 : goal.number32_at-requires-2
-number32_at-requires-2 c =
+pub number_at-requires-2-clause-there : goal.number_at-requires-2-clause-there
+number_at-requires-2-clause-there c =
     let lies : lies_in c.args.offset product_length 0 (length c.args.flash.now) ≡ true = lies-inside c.args.offset product_length 0 (length c.args.flash.now) c.in-Some.field-0 (sym c.place.ensures ∙ c.in-Some.is) in
     let inside : c.args.offset + product_length ≤ length c.args.flash.now = lies-fits _ _ _ lies in
     omega (arith, inside)
@@ -49,4 +49,4 @@ returns c =
     let lies : lies_in c.args.offset product_length 0 (length c.args.flash.now) ≡ true = lies-inside c.args.offset product_length 0 (length c.args.flash.now) c.in-Some.field-0 (sym c.place.ensures ∙ c.in-Some.is) in
     let sound = sym c.is_flash_length.ensures ∙ c.if-not-is_flash_length.false in
     let mark = sym c.is_marked.ensures ∙ c.if-not-is_marked.false in
-    simp (sound, lies, mark, c.number32_at.ensures, c.number32_at-2.ensures)
+    simp (sound, lies, mark, c.number_at.ensures, c.number_at-2.ensures)
