@@ -14,14 +14,7 @@ pub struct Uartboot {
 impl Uartboot {
     pub const KIND: u32 = 2;
 
-    // The greeting: 02 01 00 03.
-    pub const GREETING_0: u8 = 0x02;
-
-    pub const GREETING_1: u8 = 0x01;
-
-    pub const GREETING_2: u8 = 0x00;
-
-    pub const GREETING_3: u8 = 0x03;
+    pub const GREETING: [u8; 4] = [0x02, 0x01, 0x00, 0x03];
 
     pub const GREETING_LENGTH: u32 = 4;
 
@@ -35,14 +28,9 @@ impl Uartboot {
     }
 }
 
-// The greeting's byte at a place.
+// The greeting's byte at a place; past its end, the last one.
 pub fn greeting_byte(place: u32) -> u8
     ensures { result ≡ greeting place }
 {
-    match place {
-        0 => Uartboot::GREETING_0,
-        1 => Uartboot::GREETING_1,
-        2 => Uartboot::GREETING_2,
-        _ => Uartboot::GREETING_3,
-    }
+    Uartboot::GREETING[place.min(Uartboot::LAST_GREETING) as usize]
 }
