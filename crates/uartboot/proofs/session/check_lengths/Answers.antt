@@ -1,8 +1,8 @@
--- `uartboot::session::refusal`: each return by the tests that led there.
+-- `uartboot::session::check_lengths`: each return by the tests that led there.
 -- Assumes nothing.
 use mathlib.Core.Path.{sym, ◌∙◌}
 use Rattle.uartboot.specs.Session.{refusal_of}
-use Rattle.uartboot.proofs.session.refusal.Goals as goal
+use Rattle.uartboot.proofs.session.check_lengths.Goals as goal
 
 pub returns-then-not-is_work_length : goal.returns-then-not-is_work_length
 unfolding refusal_of
