@@ -1,6 +1,5 @@
 -- Laws of little-endian numbers, over the width.
 -- Assumes nothing.
-use Rattle.std.specs.Prelude.{Some, None}
 use Rattle.std.specs.Int.{w32, byte_at, bytes_low_first, to_le_bytes, from_le_bytes}
 use Rattle.std.proofs.lemmas.List.Edits.{sets, sets-eq}
 use Prim.Native.Nat.{ℕ, zero, suc, ◌+◌, ◌-◌, ◌/◌, ◌^◌, ◌≤◌, ◌<◌}
@@ -11,10 +10,7 @@ use native.Mathlib.Omega.{arith}
 use lib.ListN.{length, take, replicate}
 use lib.Seq.{drop-drop}
 use borrow.Rule.Slice.PartMut.{put_mid}
-use borrow.Author.Tests.{le-leb}
-use Rattle.wire.specs.Range.{place_in}
-use Rattle.wire.proofs.Ranges.{range-known, range-over}
-use Rattle.numbers.specs.Number.{number_of, low_byte, bytes_of, number_at, read_at}
+use Rattle.numbers.specs.Number.{number_of, low_byte, bytes_of}
 
 -- the bytes of a number make it again, at every width that it has room in
 pub bytes-number : (width n : ℕ) → n < 256 ^ width → number_of (bytes_of width n) ≡ n
@@ -60,20 +56,3 @@ put-bytes out place width number bytes h room e =
     let length_is = length-bytes width number in
     let fits : place + length (bytes_of width number) ≤ length out = rw length_is room in
     simp (sets-eq (bytes_of width number) out place fits, e, low, many, length_is, drop-drop, append_assoc)
-
-module _ (w : ℕ) (s : List ℕ) (p : ℕ) {place : ℕ} (e : place_in p w 0 (length s) ≡ Some place) where
-  -- the place is judged to be inside: all bytes of the number are there
-  pub inside-fits : place + w ≤ length s
-  inside-fits = omega (arith, range-known p w 0 (length s) place e)
-
-  pub read-inside : read_at w s p ≡ Some (number_at w s place)
-  unfolding read_at
-  read-inside =
-      let same : p ≡ place = omega (arith, range-known p w 0 (length s) place e) in
-      let fits : p + w ≤ length s = omega (arith, range-known p w 0 (length s) place e) in
-      rw (le-leb (p + w) (length s) fits) (ap (λ (q : ℕ). Some (number_at w s q)) same)
-
--- it is judged not to be
-pub read-outside : (w : ℕ) (s : List ℕ) (p : ℕ) → place_in p w 0 (length s) ≡ None → read_at w s p ≡ None
-unfolding read_at
-read-outside w s p e = rw (range-over p w (length s) e)
