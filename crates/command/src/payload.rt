@@ -1,6 +1,5 @@
 // What a payload says.
 ghost use Rattle.std.specs.Prelude.{◌≡◌, ◌+◌, ◌≤◌, length};
-ghost use Rattle.numbers.specs.Number.{number_at};
 ghost use Rattle.command.specs.Payload.{address_at, offset_at, command_of, Carried};
 
 use numbers::number_at;
@@ -37,13 +36,6 @@ fn offset_at(work: &[u8], place: usize) -> FlashOffset
     FlashOffset(number_at::<4>(work, place))
 }
 
-fn count_at(work: &[u8], place: usize) -> u32
-    requires { place + 2 ≤ length work.now }
-    ensures { result ≡ number_at 2 work.now place }
-{
-    number_at::<2>(work, place)
-}
-
 // The command that a payload of `count` bytes at the front of the work buffer says.
 #[tactic(auto, using(crate::proofs::Carrieds::long_enough))]
 pub fn command_of(opcode: Opcode, count: u32, work: &[u8]) -> Command
@@ -52,11 +44,11 @@ pub fn command_of(opcode: Opcode, count: u32, work: &[u8]) -> Command
 {
     match opcode {
         Opcode::Write => Command::Write(address_at(work, 0), count - opcode.data_place()),
-        Opcode::Read => Command::Read(address_at(work, 0), count_at(work, 4)),
-        Opcode::Copy => Command::Copy(address_at(work, 0), count_at(work, 4), offset_at(work, 6)),
+        Opcode::Read => Command::Read(address_at(work, 0), number_at::<2>(work, 4)),
+        Opcode::Copy => Command::Copy(address_at(work, 0), number_at::<2>(work, 4), offset_at(work, 6)),
         Opcode::Erase => Command::Erase(offset_at(work, 0), number_at::<4>(work, 4)),
         Opcode::Run => Command::Run(address_at(work, 0)),
-        Opcode::ReadQspi => Command::ReadQspi(offset_at(work, 0), count_at(work, 4)),
+        Opcode::ReadQspi => Command::ReadQspi(offset_at(work, 0), number_at::<2>(work, 4)),
         Opcode::Version => Command::Version,
         Opcode::ChipErase => Command::ChipErase,
         Opcode::DirectWrite => {
