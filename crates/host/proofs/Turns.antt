@@ -47,7 +47,7 @@ look-few reason byte r l = rw l.count_is (in-cond (λ (k : ℕ). k ≤ 1) (eqb b
 
 module _ {x : Exchange} {first : Step} {reason₀ : ℕ} {payload answer₀ input old : List ℕ} where
   pub begins : exchange_of x.opcode payload ≡ x → Ready first (lent_to x payload answer₀) → At x first reason₀ payload answer₀ input old first reason₀ answer₀ old 0 0
-  begins e h = record { known = e; turn = turn-begins {m = host} (λ s a. refl) (held (lent_to x payload answer₀) Any) (record { ready = h; same = same-lent (lent_to x payload answer₀) }) }
+  begins e h = record { known = e; turn = turn-begins (λ s a. refl) (held (lent_to x payload answer₀) Any) (record { ready = h; same = same-lent (lent_to x payload answer₀) }) }
 
   -- a look at the next byte, after which the command is over
   look-acted : {last : ℕ} {answer output : List ℕ} {i j : ℕ} → At x first reason₀ payload answer₀ input old step.Look last answer output i j → i < length input →
@@ -60,12 +60,6 @@ module _ {x : Exchange} {first : Step} {reason₀ : ℕ} {payload answer₀ inpu
       rw (l.count_is, is) (turn-looked t.turn refl h ended)
 
   module _ {s : Step} {last : ℕ} {answer output : List ℕ} {i j : ℕ} (t : At x first reason₀ payload answer₀ input old s last answer output i j) where
-    pub same-output : length output ≡ length old
-    same-output = t.turn.reached.same_length
-
-    pub same_answer : length answer ≡ length answer₀
-    same_answer = t.turn.keeps.same.same_length
-
     module _ (a : Ask) (asked : Asked a x s) where
       module _ (y : Taking) (e : a ≡ Take y) where
         takes-so : TakesSo y x s

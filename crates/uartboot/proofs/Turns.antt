@@ -2,7 +2,7 @@
 -- Assumes nothing.
 use Prim.Native.Nat.{ℕ, ◌≤◌}
 use native.Mathlib.Omega.{arith}
-use mathlib.Core.Path.{◌≡◌, ap}
+use mathlib.Core.Path.{◌≡◌, refl, ap}
 use mathlib.Core.List.{List}
 use lib.ListN.{length}
 use Rattle.machine.specs.Does.{Does, need_of}
@@ -31,7 +31,7 @@ At first reason₀ m₀ input old s last m reply i j = Turn device (Held m₀) (
 
 module _ {first : Step} {reason₀ : ℕ} {m₀ : Memories} {input old : List ℕ} where
   pub begins : Ready first m₀ → At first reason₀ m₀ input old first reason₀ m₀ old 0 0
-  begins h = turn-begins {m = device} (λ s a. refl) (held m₀ Any) (record { ready = h; same = same-lengths m₀ })
+  begins h = turn-begins (λ s a. refl) (held m₀ Any) (record { ready = h; same = same-lengths m₀ })
 
   module _ {s : Step} {last : ℕ} {m : Memories} {reply : List ℕ} {i j : ℕ} (t : At first reason₀ m₀ input old s last m reply i j) where
     module _ (a : Ask Taking Sending) (asked : Asked a s) where
