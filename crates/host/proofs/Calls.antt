@@ -1,6 +1,6 @@
 -- A call's result, case by case.
 -- Assumes nothing.
-use Rattle.std.specs.Prelude.{Option, Some, None}
+use Rattle.std.specs.Prelude.{Option, Some, None, Result, Ok, Err}
 use Prim.Native.Nat.{ℕ}
 use mathlib.Core.Path.{◌≡◌, refl, sym, ap, subst, ◌∙◌}
 use mathlib.Core.Bool.{Bool, true, false, cond}
@@ -14,9 +14,10 @@ use Rattle.machine.specs.declared.Record.{Record}
 use Rattle.machine.specs.declared.Report.{Report}
 use Rattle.machine.proofs.Results.{refused-length, refused-record, accepted-call}
 use Rattle.host_command.specs.declared.Exchange.{Exchange}
-use Rattle.host_command.specs.declared.Judged.TheVariants.{Accepted, Refused}
+use Rattle.host_command.specs.declared.Refusal.{Refusal}
 use Rattle.host_command.specs.Exchange.{Lent, lent, exchange_of, exchange}
-use Rattle.host_command.specs.Refusal.{refusal_of, judged_of}
+use Rattle.host_command.specs.Refusal.{refusal_of, refusal_number, refusal_with, judged_of}
+use Rattle.host_command.proofs.Commands.{has-number}
 use Rattle.host_flow.specs.declared.step.Step.{Step}
 use Rattle.host_flow.specs.State.{state}
 use Rattle.host_flow.specs.Host.{host}
@@ -26,17 +27,22 @@ use Rattle.host_record.proofs.Records.{decoded-sound}
 use Rattle.host.specs.Session.{read_of, host_session, given_back}
 
 -- a command that is judged is refused with its number, or accepted with what is known from it
-pub refused-with : (c : Lent) (n : ℕ) → judged_of c ≡ Refused n → (n ≡ refusal_of c) × (refusal_of c ≡ 0 → ⊥)
-refused-with c n e = go (eqb (refusal_of c) 0) refl e
+pub refused-with : (c : Lent) (f : Refusal) → judged_of c ≡ Err f → (refusal_number f ≡ refusal_of c) × (refusal_of c ≡ 0 → ⊥)
+refused-with c f e = go (eqb (refusal_of c) 0) refl e
   where
-    go : (t : Bool) → eqb (refusal_of c) 0 ≡ t → cond t (Accepted (exchange c)) (Refused (refusal_of c)) ≡ Refused n → (n ≡ refusal_of c) × (refusal_of c ≡ 0 → ⊥)
+    go : (t : Bool) → eqb (refusal_of c) 0 ≡ t → ◌≡◌ {A = Result Exchange Refusal} (cond t (Ok (exchange c)) (Err (refusal_with (refusal_of c)))) (Err f) →
+        (refusal_number f ≡ refusal_of c) × (refusal_of c ≡ 0 → ⊥)
     go true z q = absurd (let w : ◌≡◌ {A = ℕ} 0 1 = cc in omega arith)
-    go false z q = (cc, eqb-false (refusal_of c) 0 z)
+    go false z q =
+        let some = eqb-false (refusal_of c) 0 z in
+        let same : f ≡ refusal_with (refusal_of c) = cc in
+        (ap refusal_number same ∙ has-number c some, some)
 
-pub accepted-with : (c : Lent) (x : Exchange) → judged_of c ≡ Accepted x → (exchange c ≡ x) × (refusal_of c ≡ 0)
+pub accepted-with : (c : Lent) (x : Exchange) → judged_of c ≡ Ok x → (exchange c ≡ x) × (refusal_of c ≡ 0)
 accepted-with c x e = go (eqb (refusal_of c) 0) refl e
   where
-    go : (t : Bool) → eqb (refusal_of c) 0 ≡ t → cond t (Accepted (exchange c)) (Refused (refusal_of c)) ≡ Accepted x → (exchange c ≡ x) × (refusal_of c ≡ 0)
+    go : (t : Bool) → eqb (refusal_of c) 0 ≡ t → ◌≡◌ {A = Result Exchange Refusal} (cond t (Ok (exchange c)) (Err (refusal_with (refusal_of c)))) (Ok x) →
+        (exchange c ≡ x) × (refusal_of c ≡ 0)
     go true z q = (cc, eqb-true (refusal_of c) 0 z)
     go false z q = absurd (let w : ◌≡◌ {A = ℕ} 0 1 = cc in omega arith)
 
@@ -46,12 +52,14 @@ unfolding exchange_of
 same_opcode c x e = ap (λ (y : Exchange). y.opcode) e
 
 module _ (session : Record) (input output : List ℕ) (c : Lent) (r : Report) where
-  pub bad-command : (n : ℕ) → judged_of c ≡ Refused n → r ≡ refused_report n session → given_back r output c ≡ result_of host_session session c input output
-  bad-command n e q =
-      let why = refused-with c n e in
-      refused-length host_session session c input output r n why.0 (λ z. why.1 (sym why.0 ∙ z)) q
+  pub bad-command : (f : Refusal) → judged_of c ≡ Err f → (n : ℕ) → n ≡ refusal_number f → r ≡ refused_report n session →
+      given_back r output c ≡ result_of host_session session c input output
+  bad-command f e n is-number q =
+      let why = refused-with c f e in
+      let known = is-number ∙ why.0 in
+      refused-length host_session session c input output r n known (λ z. why.1 (sym known ∙ z)) q
 
-  module _ (x : Exchange) (e : judged_of c ≡ Accepted x) where
+  module _ (x : Exchange) (e : judged_of c ≡ Ok x) where
     abbrev known : exchange c ≡ x
     known = (accepted-with c x e).0
 
@@ -72,7 +80,7 @@ module _ (session : Record) (input output : List ℕ) (c : Lent) (r : Report) wh
         accepted-call host_session session c input output r fits (state s session.reason c) (read_as (Some s) f) taken sent stands (state last reason c') output' a q
 
 -- the loop goes by what is known from the command, its opcode among that
-module _ (opcode : ℕ) (payload answer : List ℕ) (x : Exchange) (e : judged_of (lent opcode payload answer) ≡ Accepted x) where
+module _ (opcode : ℕ) (payload answer : List ℕ) (x : Exchange) (e : judged_of (lent opcode payload answer) ≡ Ok x) where
   abbrev is-opcode : opcode ≡ x.opcode
   is-opcode = same_opcode (lent opcode payload answer) x (accepted-with (lent opcode payload answer) x e).0
 
