@@ -18,6 +18,7 @@ use Rattle.host_flow.proofs.Laws.{held}
 use Rattle.host_record.specs.Record.{written, decoded_of}
 use Rattle.host_record.proofs.Records.{decoded-sound, reads_back}
 use Rattle.host.specs.Session.{host_session}
+use Rattle.host_flow.specs.declared.step.Step.{Step}
 
 starts : (c : Lent) → host_session.write (fresh c) ≡ fresh_record
 unfolding written

@@ -9,6 +9,7 @@ use Rattle.host_command.specs.Refusal.{refusal_of}
 use Rattle.host_flow.specs.State.{State, state}
 use Rattle.host_flow.specs.Host.{host}
 use Rattle.host_record.specs.Record.{written, decoded_of}
+use Rattle.host_flow.specs.declared.step.Step.{Step}
 
 abbrev pub read_of : Option Step → (reason : ℕ) → Lent → Read State
 read_of (Some step) reason c = sound (state step reason c)
