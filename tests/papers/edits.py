@@ -40,6 +40,8 @@ EDITS = [
     ("number with no row", HEADER, "UND_ROM_NOT_ACKED = 34", "UND_ROM_NOT_ACKED = 34,\n    UND_MORE = 35", "the table has no UND_MORE"),
     # Promises.
     ("function left out", PROMISES, "`burn`, `wipe`, `erase`", "`burn`, `erase`", "wipe of crates/memory/src/flash.rt is listed 0 times"),
+    ("function of a trait left out", PROMISES, "`Register::with_byte`, `Register::after_bit`", "`Register::with_byte`",
+     "Register::after_bit of crates/crc/src/lib.rt is listed 0 times"),
     ("function listed twice", PROMISES, "`burn`, `wipe`, `erase`", "`burn`, `wipe`, `erase`, `burn`", "is listed 2 times"),
     ("function renamed", "crates/memory/src/flash.rt", "pub fn wipe(", "pub fn clear(", "flash.rt has no pub fn wipe"),
     ("caller asked for something", "crates/capi/src/lib.rt", "    ensures { result ≡ rank_of",

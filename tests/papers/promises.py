@@ -2,26 +2,27 @@
 import re
 from collections import Counter
 
-from tree import METHOD, links
+from tree import METHOD, TRAIT, links
 
 PROMISES = "docs/PROMISES.md"
 # The parts whose routines ask nothing of their callers.
 OUTSIDE = ("For C", "For callers in Rattle")
 LAWS = "Laws"
 FUNCTION = re.compile(r"^ *pub (?:extern \"C\" )?fn (\w+)", re.M)
+OF_TRAIT = re.compile(r"^    fn (\w+)", re.M)
 
 
 def contract(text, start):
-    """A function from its name up to its body."""
+    """A function from its name up to its body, or to the end where it has none."""
     lines = text[start:].split("\n")
     for end, line in enumerate(lines):
-        if line.strip() == "{" or line.endswith("{") and not re.search(r"requires|ensures", line):
+        if line.strip() == "{" or line.endswith(";") or line.endswith("{") and not re.search(r"requires|ensures", line):
             return "\n".join(lines[:end + 1])
     return text[start:]
 
 
 def functions(tree):
-    """By file and name, the contract of every public function."""
+    """By file and name, the contract of every public function, and of those of public traits."""
     found = {}
     for path in tree.glob("crates/*/src/**/*.rt"):
         text = tree.text(path)
@@ -29,6 +30,9 @@ def functions(tree):
         for function in FUNCTION.finditer(text):
             of = "".join(kind for begin, end, kind in blocks if begin < function.start() < end)
             found[path, of + function[1]] = contract(text, function.start())
+        for block in TRAIT.finditer(text):
+            for function in OF_TRAIT.finditer(text, block.start(2), block.end(2)):
+                found[path, f"{block[1]}::{function[1]}"] = contract(text, function.start())
     return found
 
 

@@ -8,10 +8,11 @@ NAME = re.compile(r"`([^`\n]+)`")
 BLOCK = re.compile(r"^```.*?^```$", re.M | re.S)
 
 DEFINED = re.compile(r"^ *(?:abbrev |unfoldable )?(?:pub )?(?:record |data )?((?:[^\s:(){}]+ )+)(?:[({].*)?:(?:\s|$)", re.M)
-WRITTEN = re.compile(r"\b(?:fn|struct|enum|const|mod) (\w+)|^ +([A-Z]\w*)(?=[(,])|^impl (\w+)", re.M)
+WRITTEN = re.compile(r"\b(?:fn|struct|enum|trait|const|mod) (\w+)|^ +([A-Z]\w*)(?=[(,])|^impl (\w+)", re.M)
 DECLARED = re.compile(r"\b(und_\w+)\(|\b(UND_\w+) =|^\} (und_\w+);", re.M)
 PORT = re.compile(r"(?:docs/)?PORT[\w-]*\.md")
 METHOD = re.compile(r"^impl(?:<[^\n{]*>)? (\w+)(?:<[^\n{]*>)? \{\n(.*?)^\}", re.M | re.S)
+TRAIT = re.compile(r"^pub trait (\w+)[^{\n]* \{\n(.*?)^\}", re.M | re.S)
 
 
 class Tree:
@@ -55,8 +56,9 @@ def words(pattern, text):
 
 
 def methods(text):
-    """`Type::name` of every function in a block `impl Type`."""
-    return {f"{kind}::{name}" for kind, body in METHOD.findall(text) for name in re.findall(r"\bfn (\w+)", body)}
+    """`Type::name` of every function in a block `impl Type`, `Trait::name` of every one in a public trait."""
+    blocks = [*METHOD.findall(text), *TRAIT.findall(text)]
+    return {f"{kind}::{name}" for kind, body in blocks for name in re.findall(r"\bfn (\w+)", body)}
 
 
 def named(path):

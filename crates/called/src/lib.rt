@@ -1,12 +1,14 @@
-// What C gets of a session call: the report by value, the record in eight words.
+// What C gets of a session call: a report by value, the record in eight words.
 #![tactic(auto)]
 
 ghost use Rattle.std.specs.Prelude.{◌≡◌};
+ghost use Rattle.machine.specs.Told.{told};
+ghost use Rattle.machine.specs.Words.{record_of};
 ghost use Rattle.called.specs.Called.{called_of, words_after};
 
-use machine::Report;
+use machine::Accepted;
 
-// A session call's report without its record, which C has in its eight words.
+// The number 0 and what the call did, or a refusal's number and zeros.
 #[repr(C)]
 #[derive(Clone, Copy)]
 pub struct Called {
@@ -16,26 +18,26 @@ pub struct Called {
     pub sent: usize,
 }
 
-impl From<Report> for Called {
-    ghost from_gives = { λ report called. called ≡ called_of report };
-
-    fn from(report: Report) -> Called {
-        Called {
-            number: report.number,
-            standing: report.standing,
-            taken: report.taken,
-            sent: report.sent,
-        }
-    }
-}
-
-// A call's report for C, its record into the words. A refused call doesn't write them.
-pub fn hand_back(report: Report, words: &mut [u32; 8]) -> Called
-    ensures value { result ≡ called_of report }
-    ensures words_after { words.new ≡ words_after report words.old }
+// A call's outcome for C, its record into the words. A refused call, by its number, doesn't write them.
+pub fn hand_back(outcome: Result<Accepted, u32>, words: &mut [u32; 8]) -> Called
+    ensures value { result ≡ called_of (told (λ number. number) (record_of words.old) outcome) }
+    ensures words_after { words.new ≡ words_after outcome words.old }
 {
-    if report.number == 0 {
-        *words = report.session.into();
+    match outcome {
+        Ok(done) => {
+            *words = done.session.into();
+            Called {
+                number: 0,
+                standing: done.standing.into(),
+                taken: done.taken,
+                sent: done.sent,
+            }
+        }
+        Err(number) => Called {
+            number,
+            standing: 0,
+            taken: 0,
+            sent: 0,
+        },
     }
-    report.into()
 }

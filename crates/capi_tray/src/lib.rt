@@ -9,5 +9,8 @@ ghost use Rattle.tray.specs.Tray.{tray, tray_of};
 pub extern "C" fn und_rank_tray(fields: &[u8], ranks: &mut [u32]) -> u32
     ensures { tray result ranks.new ≡ tray_of fields.now ranks.old }
 {
-    tray::rank_tray(fields, ranks)
+    match tray::rank_tray(fields, ranks) {
+        Ok(()) => 0,
+        Err(refusal) => refusal.into(),
+    }
 }

@@ -1,1 +1,2 @@
+pub mod Carrieds
 pub mod Judged

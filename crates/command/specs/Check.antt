@@ -1,7 +1,7 @@
 -- The checks of a command (rules, 2.2 and 6.8): reasons 14 and 15, 16 and 21 for the range in RAM, 16 and 21 for the range in flash, and
 -- 17, in that order.
 -- Assumes nothing.
-use Rattle.std.specs.Prelude.{ℕ, cond, not, eqb, ltb, length, Option, Some, None}
+use Rattle.std.specs.Prelude.{ℕ, cond, not, eqb, ltb, length, Option, Some, None, Result, Ok, Err}
 use Rattle.wire.specs.Range.{lies_in}
 use Rattle.wire.specs.Unit.{ram_base, first_address, ram_place, flash_place}
 use Rattle.wire.specs.declared.unit.RamAddress.{RamAddress}
@@ -9,6 +9,8 @@ use Rattle.wire.specs.declared.unit.FlashOffset.{FlashOffset}
 use Rattle.command.specs.declared.payload.Command.{Command}
 use Rattle.command.specs.declared.payload.Command.TheVariants.{Write, Read, Copy, Erase, Run, ReadQspi, Version, ChipErase, DirectWrite}
 use Rattle.command.specs.declared.check.Checks.{Checks}
+use Rattle.command.specs.declared.fault.Fault.{Fault}
+use Rattle.command.specs.declared.fault.Fault.TheVariants.{BadVerify, EmptyRange, OutsideMemory, PastEnd, LongAnswer}
 use Rattle.command.specs.Version.{version}
 
 -- the reasons: verify is neither 0 nor 1; a count or size is 0; the first byte of a range is outside its memory; a range begins in its
@@ -27,6 +29,18 @@ past_end = 21
 
 abbrev pub long_answer : ℕ
 long_answer = 17
+
+abbrev pub fault_number : Fault → ℕ
+fault_number BadVerify = bad_verify
+fault_number EmptyRange = empty_range
+fault_number OutsideMemory = outside_memory
+fault_number PastEnd = past_end
+fault_number LongAnswer = long_answer
+
+-- the reason that a check gives; 0 where it passes
+abbrev pub reason_of : Result (Unit {0}) Fault → ℕ
+reason_of (Ok passed) = 0
+reason_of (Err fault) = fault_number fault
 
 abbrev pub checks : (verify count : ℕ) (address : RamAddress) (ram : ℕ) (offset : FlashOffset) (flash answer : ℕ) → Checks
 checks verify count address ram offset flash answer =

@@ -1,25 +1,12 @@
 // The checks of a command.
-ghost use Rattle.std.specs.Prelude.{◌≡◌};
-ghost use Rattle.command.specs.Check.{checks, checks_of, judged, wrong_end};
+ghost use Rattle.std.specs.Prelude.{◌≡◌, length};
+ghost use Rattle.wire.specs.Unit.{first_address};
+ghost use Rattle.command.specs.Check.{checks, checks_of, first_offset, judged, wrong_end, fault_number, reason_of};
 
+use crate::fault::Fault;
 use crate::payload::Command;
 use crate::version::VERSION;
 use wire::unit::{FlashOffset, RAM_BASE, RamAddress};
-
-// The reason where the verify byte is neither 0 nor 1.
-pub const BAD_VERIFY: u32 = 14;
-
-// The reason where a count or size is 0.
-pub const EMPTY_RANGE: u32 = 15;
-
-// The reason where the first byte of a range is outside its memory.
-pub const OUTSIDE_MEMORY: u32 = 16;
-
-// The reason where a range begins in its memory and runs past the end.
-pub const PAST_END: u32 = 21;
-
-// The reason where the answer is longer than the work buffer.
-pub const LONG_ANSWER: u32 = 17;
 
 // What is tested of a command: its verify byte, its count, its range in RAM, its range in flash, and how long its answer is.
 #[derive(Clone, Copy)]
@@ -33,83 +20,127 @@ pub struct Checks {
     pub answer: u32,
 }
 
-fn tested(
-    verify: u8,
-    count: u32,
-    address: RamAddress,
-    ram: u32,
-    offset: FlashOffset,
-    flash: u32,
-    answer: u32,
-) -> Checks
-    ensures { result ≡ checks verify count address ram offset flash answer }
-{
-    Checks {
-        verify: verify,
-        count: count,
-        address: address,
-        ram: ram,
-        offset: offset,
-        flash: flash,
-        answer: answer,
+impl Checks {
+    // A command without a range in a memory has an empty range at the memory's start.
+    fn of(count: u32) -> Checks
+        ensures { result ≡ checks 0 count first_address 0 first_offset 0 0 }
+    {
+        Checks {
+            verify: 0,
+            count,
+            address: RamAddress(RAM_BASE),
+            ram: 0,
+            offset: FlashOffset(0),
+            flash: 0,
+            answer: 0,
+        }
+    }
+
+    // As many bytes as are counted, from an address on.
+    fn in_ram(self, address: RamAddress) -> Checks
+        ensures { result ≡ checks self.verify self.count address self.count self.offset self.flash self.answer }
+    {
+        Checks {
+            address,
+            ram: self.count,
+            ..self
+        }
+    }
+
+    // As many bytes as are counted, from an offset on.
+    fn in_flash(self, offset: FlashOffset) -> Checks
+        ensures { result ≡ checks self.verify self.count self.address self.ram offset self.count self.answer }
+    {
+        Checks {
+            offset,
+            flash: self.count,
+            ..self
+        }
+    }
+
+    fn answering(self, answer: u32) -> Checks
+        ensures { result ≡ checks self.verify self.count self.address self.ram self.offset self.flash answer }
+    {
+        Checks { answer, ..self }
     }
 }
 
-// What is tested of a command. One without a range in a memory has an empty range at the memory's start.
+// What is tested of a command.
 pub fn checks_of(command: Command) -> Checks
     ensures { result ≡ checks_of command }
 {
-    let first = RamAddress(RAM_BASE);
-    let start = FlashOffset(0);
     match command {
-        Command::Write(address, n) => tested(0, n, address, n, start, 0, 0),
-        Command::Read(address, n) => tested(0, n, address, n, start, 0, n),
-        Command::Copy(address, n, offset) => tested(0, n, address, n, offset, n, 0),
-        Command::Erase(offset, n) => tested(0, n, first, 0, offset, n, 0),
-        Command::Run(address) => tested(0, 1, address, 1, start, 0, 0),
-        Command::ReadQspi(offset, n) => tested(0, n, first, 0, offset, n, n),
-        Command::Version => tested(0, 1, first, 0, start, 0, VERSION.len() as u32),
-        Command::ChipErase => tested(0, 1, first, 0, start, 0, 0),
-        Command::DirectWrite(verify, offset, n) => tested(verify, n, first, 0, offset, n, 0),
+        Command::Write(address, n) => Checks::of(n).in_ram(address),
+        Command::Read(address, n) => Checks::of(n).in_ram(address).answering(n),
+        Command::Copy(address, n, offset) => Checks::of(n).in_ram(address).in_flash(offset),
+        Command::Erase(offset, n) => Checks::of(n).in_flash(offset),
+        Command::Run(address) => Checks::of(1).in_ram(address),
+        Command::ReadQspi(offset, n) => Checks::of(n).in_flash(offset).answering(n),
+        Command::Version => Checks::of(1).answering(VERSION.len() as u32),
+        Command::ChipErase => Checks::of(1),
+        Command::DirectWrite(verify, offset, n) => Checks {
+            verify,
+            ..Checks::of(n).in_flash(offset)
+        },
     }
 }
 
-// The reason against a range that doesn't lie wholly in its memory, by the place of its first byte.
-fn wrong_end(first: Option<usize>) -> u32
-    ensures { result ≡ wrong_end first }
+// The lengths of the memories.
+#[derive(Clone, Copy)]
+pub struct Sizes {
+    pub ram: usize,
+    pub flash: usize,
+    pub work: usize,
+}
+
+impl Sizes {
+    pub fn of(ram: &[u8], flash: &[u8], work: &[u8]) -> Sizes
+        ensures { (result.ram ≡ length ram.now) × (result.flash ≡ length flash.now) × (result.work ≡ length work.now) }
+    {
+        Sizes {
+            ram: ram.len(),
+            flash: flash.len(),
+            work: work.len(),
+        }
+    }
+}
+
+// What is wrong with a range that doesn't lie wholly in its memory, by the place of its first byte.
+fn wrong_end(first: Option<usize>) -> Fault
+    ensures { fault_number result ≡ wrong_end first }
 {
     match first {
-        Some(_) => PAST_END,
-        None => OUTSIDE_MEMORY,
+        Some(_) => Fault::PastEnd,
+        None => Fault::OutsideMemory,
     }
 }
 
-// The reason of the first test that fails, by the lengths of the memories; 0 where none does.
+// The first test that fails.
 #[tactic(auto, using(crate::proofs::Judged::judgements))]
-fn judge(c: Checks, ram: usize, flash: usize, work: usize) -> u32
-    ensures { result ≡ judged ram flash work c }
+fn judge(c: Checks, sizes: Sizes) -> Result<(), Fault>
+    ensures { reason_of result ≡ judged sizes.ram sizes.flash sizes.work c }
 {
     if 1 < c.verify {
-        return BAD_VERIFY;
+        return Err(Fault::BadVerify);
     }
     if c.count == 0 {
-        return EMPTY_RANGE;
+        return Err(Fault::EmptyRange);
     }
-    let Some(_) = c.address.place(c.ram as usize, ram) else {
-        return wrong_end(c.address.place(1, ram));
-    };
-    let Some(_) = c.offset.place(c.flash as usize, flash) else {
-        return wrong_end(c.offset.place(1, flash));
-    };
-    if work < (c.answer as usize) {
-        return LONG_ANSWER;
+    c.address
+        .place(c.ram as usize, sizes.ram)
+        .ok_or_else(|| wrong_end(c.address.place(1, sizes.ram)))?;
+    c.offset
+        .place(c.flash as usize, sizes.flash)
+        .ok_or_else(|| wrong_end(c.offset.place(1, sizes.flash)))?;
+    if sizes.work < (c.answer as usize) {
+        return Err(Fault::LongAnswer);
     }
-    0
+    Ok(())
 }
 
-// The reason against a command, by the lengths of the memories; 0 where there is none.
-pub fn check(command: Command, ram: usize, flash: usize, work: usize) -> u32
-    ensures { result ≡ judged ram flash work (checks_of command) }
+// What is wrong with a command, in memories of these lengths.
+pub fn check(command: Command, sizes: Sizes) -> Result<(), Fault>
+    ensures { reason_of result ≡ judged sizes.ram sizes.flash sizes.work (checks_of command) }
 {
-    judge(checks_of(command), ram, flash, work)
+    judge(checks_of(command), sizes)
 }

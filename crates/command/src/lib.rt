@@ -2,5 +2,6 @@
 #![tactic(auto)]
 
 pub mod check;
+pub mod fault;
 pub mod payload;
 pub mod version;

@@ -23,7 +23,9 @@ use Rattle.command.specs.declared.payload.Command.TheVariants as command
 use Rattle.opcodes.specs.Opcode.{has_answer, data_place, is_run}
 use Rattle.command.specs.Payload.{offset_at, command_of}
 use Rattle.command.specs.Version.{version}
-use Rattle.command.specs.Check.{checks_of}
+use Rattle.command.specs.declared.fault.Fault.{Fault}
+use Rattle.command.specs.declared.fault.Fault.TheVariants.{BadVerify, EmptyRange, OutsideMemory, PastEnd, LongAnswer}
+use Rattle.command.specs.Check.{checks_of, fault_number}
 use Rattle.command_execution.specs.declared.Ending.{Ending}
 use Rattle.command_execution.specs.declared.Ending.TheVariants.{Silent, Answers, Runs, Failed}
 use Rattle.memory.specs.Memories.{Memories, Fitting, SameLengths}
@@ -31,22 +33,31 @@ use Rattle.command_execution.specs.Execution.{Executed, ended, is_running, is_an
 use Rattle.command_execution.specs.Execution.{place_of, answered, direct_written, verify_differs}
 use Rattle.command_execution.proofs.Checks.{Passed, allowed}
 
--- the command that a payload says, and the reason against it
-module _ (opcode : Opcode) (count : ℕ) (m : Memories) (said : Command) (is_said : said ≡ command_of opcode count m.work)
-    (reason : ℕ) (is-against : reason ≡ checked said m) where
-  -- there is none
-  pub performs : reason ≡ 0 → performed said m ≡ executed opcode count m
-  unfolding executed
-  performs e = rw (← is_said, ← is-against, e)
+some-number : (fault : Fault) → fault_number fault ≡ 0 → ⊥
+some-number BadVerify e = omega arith
+some-number EmptyRange e = omega arith
+some-number OutsideMemory e = omega arith
+some-number PastEnd e = omega arith
+some-number LongAnswer e = omega arith
 
-  -- there is one
-  pub refuses : (reason ≡ 0 → ⊥) → ended (Failed reason) m ≡ executed opcode count m
+-- nothing is against the command that a payload says, or a reason is
+module _ (opcode : Opcode) (count : ℕ) (m : Memories) where
+  pub performs : checked (command_of opcode count m.work) m ≡ 0 → executed opcode count m ≡ performed (command_of opcode count m.work) m
   unfolding executed
-  refuses e = rw (← is_said, ← is-against, ne_eqb _ _ e)
+  performs e = rw e refl
 
-pub failed-changes-nothing : (opcode : Opcode) (count : ℕ) (m : Memories) (k : ℕ) → checked (command_of opcode count m.work) m ≡ suc k
-    → executed opcode count m ≡ ended (Failed (suc k)) m
-failed-changes-nothing opcode count m k e = sym (refuses opcode count m _ refl (suc k) (sym e) (λ z. omega arith))
+  refuses : (reason : ℕ) → checked (command_of opcode count m.work) m ≡ reason → (reason ≡ 0 → ⊥) → executed opcode count m ≡ ended (Failed reason) m
+  unfolding executed
+  refuses reason e h = rw (e, ne_eqb reason 0 h) refl
+
+  pub failed-changes-nothing : (k : ℕ) → checked (command_of opcode count m.work) m ≡ suc k → executed opcode count m ≡ ended (Failed (suc k)) m
+  failed-changes-nothing k e = refuses (suc k) e (λ z. omega arith)
+
+  pub refused-for : (fault : Fault) → fault_number fault ≡ checked (command_of opcode count m.work) m
+      → executed opcode count m ≡ ended (Failed (fault_number fault)) m
+  refused-for fault e = refuses (fault_number fault) (sym e) (some-number fault)
+
+pub ruleset executions = (performs, refused-for)
 
 -- what holds of a command that is done, and of one that fails, holds of its execution
 pub in-executed : (Q : Executed → Type 0) (opcode : Opcode) (count : ℕ) (m : Memories)
@@ -87,7 +98,7 @@ performed-ends DirectWrite count m =
 pub run-starts : (opcode : Opcode) (count : ℕ) (m : Memories) → checked (command_of opcode count m.work) m ≡ 0
     → is_running (executed opcode count m).ending ≡ is_run opcode
 run-starts opcode count m e =
-    ap (λ (x : Executed). is_running x.ending) (sym (performs opcode count m _ refl 0 (sym e) refl)) ∙ (performed-ends opcode count m).0
+    ap (λ (x : Executed). is_running x.ending) (performs opcode count m e) ∙ (performed-ends opcode count m).0
 
 pub others-never-run : (opcode : Opcode) (count : ℕ) (m : Memories) → is_run opcode ≡ false → is_running (executed opcode count m).ending ≡ false
 others-never-run opcode count m other =

@@ -1,4 +1,3 @@
-pub mod DataEnds
 pub mod Checks
 pub mod Ready
 pub mod Executions

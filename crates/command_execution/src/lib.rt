@@ -9,20 +9,20 @@ ghost use Rattle.command.specs.Payload.{Carried};
 ghost use Rattle.memory.specs.Memories.{memories, Fitting};
 ghost use Rattle.command_execution.specs.Execution.{ended, verified, performed, executed, Allowed};
 
-use command::check::check;
+use command::check::{Sizes, check};
 use command::payload::{Command, command_of};
 use command::version::VERSION;
 use memory::compare::is_front;
 use memory::flash::{burn, erase, wipe};
 use memory::store::lay;
-use opcodes::{Opcode, data_place};
+use opcodes::Opcode;
 use wire::unit::{FlashOffset, RAM_BASE, RamAddress};
 
 // The reason where flash differs from the command's data.
 pub const VERIFY_DIFFERS: u32 = 18;
 
 // How a command ends: without an answer, with an answer of n bytes at the front of the work buffer, with code running at an
-// address, or with a reason.
+// address, or with a reason, whose number the definition `executed` has too.
 #[derive(Clone, Copy)]
 pub enum Ending {
     Silent,
@@ -66,18 +66,14 @@ fn direct_write(verify: u8, offset: usize, bytes: &[u8], flash: &mut [u8]) -> En
     ensures { (result ≡ verified verify offset bytes.now flash.new) × (flash.new ≡ changed_from offset (burnt bytes.now) flash.old) }
 {
     burn(&mut flash[offset..], bytes);
-    if verify == 1 {
-        if is_front(bytes, &flash[offset..]) {
-            Ending::Silent
-        } else {
-            Ending::Failed(VERIFY_DIFFERS)
-        }
-    } else {
-        Ending::Silent
+    if verify == 1 && !is_front(bytes, &flash[offset..]) {
+        return Ending::Failed(VERIFY_DIFFERS);
     }
+    Ending::Silent
 }
 
 // Does what a command says, its checks passed.
+#[tactic(auto, using(crate::proofs::Ready::readiness))]
 fn perform(command: Command, ram: &mut [u8], flash: &mut [u8], work: &mut [u8]) -> Ending
     requires { Allowed command (length ram.old) (length flash.old) (length work.old) }
     ensures { ended result (memories ram.new flash.new work.new) ≡ performed command (memories ram.old flash.old work.old) }
@@ -85,7 +81,7 @@ fn perform(command: Command, ram: &mut [u8], flash: &mut [u8], work: &mut [u8]) 
     match command {
         Command::Write(address, n) => {
             let start = index_of(address);
-            let from = data_place(Opcode::Write) as usize;
+            let from = Opcode::Write.data_place() as usize;
             let end = from + (n as usize);
             lay(&mut ram[start..], &work[from..end]);
             Ending::Silent
@@ -107,7 +103,7 @@ fn perform(command: Command, ram: &mut [u8], flash: &mut [u8], work: &mut [u8]) 
             Ending::Silent
         }
         Command::DirectWrite(verify, offset, n) => {
-            let from = data_place(Opcode::DirectWrite) as usize;
+            let from = Opcode::DirectWrite.data_place() as usize;
             let end = from + (n as usize);
             direct_write(verify, offset.0 as usize, &work[from..end], flash)
         }
@@ -116,6 +112,7 @@ fn perform(command: Command, ram: &mut [u8], flash: &mut [u8], work: &mut [u8]) 
 
 // Executes the command that the payload at the front of the work buffer says: its checks are made again, and where one fails nothing
 // changes.
+#[tactic(auto, using(crate::proofs::Executions::executions))]
 pub fn execute(
     opcode: Opcode,
     count: u32,
@@ -128,10 +125,8 @@ pub fn execute(
     ensures { ended result (memories ram.new flash.new work.new) ≡ executed opcode count (memories ram.old flash.old work.old) }
 {
     let command = command_of(opcode, count, work);
-    let reason = check(command, ram.len(), flash.len(), work.len());
-    if reason == 0 {
-        perform(command, ram, flash, work)
-    } else {
-        Ending::Failed(reason)
+    match check(command, Sizes::of(ram, flash, work)) {
+        Ok(()) => perform(command, ram, flash, work),
+        Err(fault) => Ending::Failed(u32::from(fault)),
     }
 }

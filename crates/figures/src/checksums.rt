@@ -37,11 +37,7 @@ fn in_parts(rt: &impl Print, bytes: &[u8], cut: usize, name: &[u8]) -> io::Resul
 
 // 4,096 bytes that count from 0 to 255 again and again.
 fn counting() -> [u8; 4096] {
-    let mut bytes = [0u8; 4096];
-    for i in 0..4096usize {
-        bytes[i] = (i % 256) as u8;
-    }
-    bytes
+    std::array::from_fn(|i| (i % 256) as u8)
 }
 
 fn in_catalogues(rt: &impl Print) -> io::Result<()> {

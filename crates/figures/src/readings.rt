@@ -19,8 +19,8 @@ fn line(rt: &impl Print, width: u64, place: usize, found: Option<u32>) -> io::Re
 
 fn read(rt: &impl Print, place: usize) -> io::Result<()> {
     let bytes = b"\x12\x34\x56\x78\x9A";
-    line(rt, 2, place, numbers::read16(bytes, place))?;
-    line(rt, 4, place, numbers::read32(bytes, place))
+    line(rt, 2, place, numbers::read_at::<2>(bytes, place))?;
+    line(rt, 4, place, numbers::read_at::<4>(bytes, place))
 }
 
 pub fn run(rt: &impl Print) -> io::Result<()> {

@@ -6,7 +6,7 @@ ghost use Rattle.memory.specs.Store.{laid};
 ghost use Rattle.frame.specs.Frame.{longest, is_extended, header_of, frame_of, refused, written, framed_of};
 
 use memory::store::lay;
-use numbers::put::put16;
+use numbers::put::put;
 use rom_flow::kind::{FIRST_EXTENDED, Kind};
 use wire::line::{ACK, SOH};
 
@@ -77,10 +77,10 @@ fn put_header(kind: Kind, count: usize, out: &mut [u8])
     if is_extended(kind, count) {
         out[1] = 0;
         out[2] = 0;
-        put16(out, 3, (count - FIRST_EXTENDED) as u16);
+        put::<2>(out, 3, (count - FIRST_EXTENDED) as u32);
         return;
     }
-    put16(out, 1, count as u16);
+    put::<2>(out, 1, count as u32);
 }
 
 // Writes a frame to the front of an output that has room for it.

@@ -11,7 +11,7 @@ use borrow.Author.Tests.{eqb-true, eqb-false}
 use Rattle.machine.specs.Loop.{Acted}
 use Rattle.machine.specs.Session.{bad_record, refused_report, result_of}
 use Rattle.machine.specs.declared.Record.{Record}
-use Rattle.machine.specs.declared.Report.{Report}
+use Rattle.machine.specs.Session.{Report}
 use Rattle.machine.proofs.Results.{refused-length, refused-record, accepted-call}
 use Rattle.host_command.specs.declared.Exchange.{Exchange}
 use Rattle.host_command.specs.declared.Judged.TheVariants.{Accepted, Refused}

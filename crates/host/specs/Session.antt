@@ -3,7 +3,7 @@
 -- Assumes nothing.
 use Rattle.std.specs.Prelude.{ℕ, List, Option, Some, None}
 use Rattle.machine.specs.Session.{Read, sound, unsound, Session, Result}
-use Rattle.machine.specs.declared.Report.{Report}
+use Rattle.machine.specs.Session.{Report}
 use Rattle.host_command.specs.Exchange.{Lent, exchange}
 use Rattle.host_command.specs.Refusal.{refusal_of}
 use Rattle.host_flow.specs.State.{State, state}

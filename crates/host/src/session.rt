@@ -8,7 +8,7 @@ ghost use Rattle.host_flow.specs.Host.{host};
 ghost use Rattle.host_flow.specs.Sound.{Ready};
 ghost use Rattle.host.specs.Session.{host_session, given_back};
 
-use host_command::{Exchange, Judged, judge};
+use host_command::{Exchange, judge};
 use host_flow::ask::{Ask, ask_of};
 use host_flow::step::Step;
 use host_record::{decode, encode};
@@ -75,8 +75,8 @@ pub fn call(
     ensures { given_back result output.new (lent opcode payload.now answer.new) ≡ result_of host_session session (lent opcode payload.now answer.old) input.now output.old }
 {
     match judge(opcode, payload, answer) {
-        Judged::Refused(number) => refused(number, session),
-        Judged::Accepted(x) => match decode(x, session) {
+        Err(refusal) => refused(u32::from(refusal), session),
+        Ok(x) => match decode(x, session) {
             None => refused(BAD_RECORD, session),
             Some(step) => {
                 let end = act(x, step, session.reason, payload, input, output, answer);

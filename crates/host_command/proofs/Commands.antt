@@ -1,6 +1,6 @@
 -- A host's command, case by case: refused with 71, refused with 72, accepted.
 -- Assumes nothing.
-use Rattle.std.specs.Prelude.{Some}
+use Rattle.std.specs.Prelude.{Some, None, Ok, Err}
 use Prim.Native.Nat.{ℕ, ◌≤◌, ◌<◌}
 use native.Mathlib.Omega.{arith}
 use mathlib.Core.Path.{◌≡◌, refl, ap, ◌∙◌}
@@ -14,8 +14,7 @@ use Rattle.opcodes.specs.declared.Opcode.{Opcode}
 use Rattle.opcodes.specs.declared.Opcode.TheVariants.{Write, Read, Copy, Erase, Run, ReadQspi, Version, ChipErase, DirectWrite}
 use Rattle.opcodes.specs.Opcode.{opcode_number, opcode_of, has_length}
 use Rattle.opcodes.proofs.Opcodes.{opcode-number}
-use Rattle.host_command.specs.declared.Follows.{Follows}
-use Rattle.host_command.specs.declared.Judged.TheVariants.{Accepted, Refused}
+use Rattle.host_command.specs.declared.Refusal.TheVariants.{BadCommand, ShortAnswer}
 use Rattle.host_command.specs.declared.Exchange.{Exchange}
 use Rattle.host_command.specs.Exchange.{Lent, lent, follows_command, exchange_of, exchange, awaited_of, awaited}
 use Rattle.host_command.specs.Refusal.{bad_command, short_answer, longest_payload, is_command, refusal_of, judged_of}
@@ -36,28 +35,31 @@ pub number-byte : (n : ℕ) (opcode : Opcode) → opcode_of n ≡ Some opcode �
 number-byte n opcode e = rw (← opcode-number n opcode e) (one_byte opcode)
 
 module _ (c : Lent) where
-  pub no-command : is_command (opcode_of c.opcode) (length c.payload) ≡ false → Refused bad_command ≡ judged_of c
+  no-command : is_command (opcode_of c.opcode) (length c.payload) ≡ false → Err BadCommand ≡ judged_of c
   unfolding refusal_of
   no-command e = rw e refl
 
   module _ (e : is_command (opcode_of c.opcode) (length c.payload) ≡ true) where
-    pub no_room : length c.answer < awaited c → Refused short_answer ≡ judged_of c
+    pub no_room : length c.answer < awaited c → Err ShortAnswer ≡ judged_of c
     unfolding refusal_of
     no_room h = rw (e, lt-ltb _ _ h) refl
 
-    pub good : awaited c ≤ length c.answer → Accepted (exchange c) ≡ judged_of c
+    pub good : awaited c ≤ length c.answer → Ok (exchange c) ≡ judged_of c
     unfolding refusal_of
     good h = rw (e, le-ltb _ _ h) refl
+
+pub unknown : (n : ℕ) (payload answer : List ℕ) → opcode_of n ≡ None → Err BadCommand ≡ judged_of (lent n payload answer)
+unknown n payload answer e = no-command (lent n payload answer) (rw e refl)
 
 module _ (n : ℕ) (payload answer : List ℕ) (opcode : Opcode) (known : opcode_of n ≡ Some opcode) where
   abbrev c : Lent
   c = lent n payload answer
 
-  pub unfit : has_length opcode (length payload) ≡ false → Refused bad_command ≡ judged_of c
+  pub unfit : has_length opcode (length payload) ≡ false → Err BadCommand ≡ judged_of c
   unfit e = no-command c (rw (known, e) refl)
 
   module _ (has : has_length opcode (length payload) ≡ true) where
-    pub long : longest_payload < length payload → Refused bad_command ≡ judged_of c
+    pub long : longest_payload < length payload → Err BadCommand ≡ judged_of c
     long h = no-command c (rw (known, has, lt-leb _ _ h) refl)
 
     module _ (short : length payload ≤ longest_payload) where
@@ -68,17 +70,18 @@ module _ (n : ℕ) (payload answer : List ℕ) (opcode : Opcode) (known : opcode
       unfolding exchange_of
       follows_is = rw known refl
 
-      pub cramped : (f : Follows) → f ≡ follows_command opcode payload → length answer < awaited_of f → Refused short_answer ≡ judged_of c
-      cramped f e h = no_room c is_one (rw (follows_is, ← e) h)
+      pub cramped : length answer < awaited_of (follows_command opcode payload) → Err ShortAnswer ≡ judged_of c
+      cramped h = no_room c is_one (rw follows_is h)
 
-      same-exchange : (f : Follows) → f ≡ follows_command opcode payload → (b : ℕ) → b ≡ low_byte n →
-          ◌≡◌ {A = Exchange} (record { opcode = b; size = length payload; follows = f }) (exchange_of n payload)
+      same-exchange : ◌≡◌ {A = Exchange} (record { opcode = low_byte n; size = length payload; follows = follows_command opcode payload }) (exchange_of n payload)
       unfolding exchange_of
-      same-exchange f e b q = rw (q ∙ number-byte n opcode known, e, known) refl
+      same-exchange = rw (number-byte n opcode known, known) refl
 
-      pub taken : (f : Follows) → f ≡ follows_command opcode payload → awaited_of f ≤ length answer → (b : ℕ) → b ≡ low_byte n →
-          Accepted (record { opcode = b; size = length payload; follows = f }) ≡ judged_of c
-      taken f e h b q = ap Accepted (same-exchange f e b q) ∙ good c is_one (rw (follows_is, ← e) h)
+      pub taken : awaited_of (follows_command opcode payload) ≤ length answer →
+          Ok (record { opcode = low_byte n; size = length payload; follows = follows_command opcode payload }) ≡ judged_of c
+      taken h = ap Ok same-exchange ∙ good c is_one (rw follows_is h)
+
+pub ruleset judgements = (unknown, unfit, long, cramped, taken)
 
 -- what is known of an accepted command: it is one, and its answer has room
 pub record Fits (c : Lent) : Type 0 where

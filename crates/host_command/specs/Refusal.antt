@@ -1,9 +1,11 @@
 -- The refusals of a host's command (rules, 2.1 and 15.2): 71, then 72, before any byte is sent.
 -- Assumes nothing.
-use Rattle.std.specs.Prelude.{ℕ, Bool, false, cond, not, ◌&&◌, eqb, leb, ltb, length, Option, Some, None}
+use Rattle.std.specs.Prelude.{ℕ, Bool, false, cond, not, ◌&&◌, eqb, leb, ltb, length, Option, Some, None, Result, Ok, Err}
+use Rattle.opcodes.specs.declared.Opcode.{Opcode}
 use Rattle.opcodes.specs.Opcode.{opcode_of, has_length}
-use Rattle.host_command.specs.declared.Judged.{Judged}
-use Rattle.host_command.specs.declared.Judged.TheVariants.{Accepted, Refused}
+use Rattle.host_command.specs.declared.Exchange.{Exchange}
+use Rattle.host_command.specs.declared.Refusal.{Refusal}
+use Rattle.host_command.specs.declared.Refusal.TheVariants.{BadCommand, ShortAnswer}
 use Rattle.host_command.specs.Exchange.{Lent, exchange, awaited}
 use Rattle.opcodes.specs.declared.Opcode.{Opcode}
 
@@ -30,6 +32,14 @@ refusal_of c =
     (cond (ltb (length c.answer) (awaited c)) short_answer
     0)
 
+abbrev pub refusal_number : Refusal → ℕ
+refusal_number BadCommand = bad_command
+refusal_number ShortAnswer = short_answer
+
+-- the refusal with a number
+abbrev pub refusal_with : (number : ℕ) → Refusal
+refusal_with number = cond (eqb number bad_command) BadCommand ShortAnswer
+
 -- refused, or all that the host knows from the command
-abbrev pub judged_of : Lent → Judged
-judged_of c = cond (eqb (refusal_of c) 0) (Accepted (exchange c)) (Refused (refusal_of c))
+abbrev pub judged_of : Lent → Result Exchange Refusal
+judged_of c = cond (eqb (refusal_of c) 0) (Ok (exchange c)) (Err (refusal_with (refusal_of c)))

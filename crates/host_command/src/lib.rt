@@ -4,12 +4,12 @@
 ghost use Rattle.std.specs.Prelude.{true, ◌≡◌, ◌≤◌, length};
 ghost use Rattle.opcodes.specs.Opcode.{has_length};
 ghost use Rattle.host_command.specs.Exchange.{lent, follows_command, awaited_of};
-ghost use Rattle.host_command.specs.Refusal.{longest_payload, judged_of};
+ghost use Rattle.host_command.specs.Refusal.{longest_payload, refusal_number, judged_of};
 
 use command::check::checks_of;
 use command::payload::command_of;
 use numbers::low_byte;
-use opcodes::{Opcode, has_answer, has_length, number_of, opcode_of};
+use opcodes::{Opcode, opcode_of};
 
 // The number where there is no such command, or not with this length.
 pub const BAD_COMMAND: u32 = 71;
@@ -36,21 +36,33 @@ pub struct Exchange {
     pub follows: Follows,
 }
 
-// A command is accepted, or refused with a number.
-#[derive(Clone, Copy)]
-pub enum Judged {
-    Accepted(Exchange),
-    Refused(u32),
+// Why a command is refused.
+#[derive(Clone, Copy, Debug, PartialEq, Eq)]
+pub enum Refusal {
+    BadCommand,
+    ShortAnswer,
 }
 
-// How long an answer must be; 0 where none is awaited.
-pub fn awaited_of(follows: Follows) -> u32
-    ensures { result ≡ awaited_of follows }
-{
-    match follows {
-        Follows::Answers(size) => size,
-        Follows::Runs => 0,
-        Follows::Greets => 0,
+impl From<Refusal> for u32 {
+    ghost from_gives = { λ r n. n ≡ refusal_number r };
+
+    fn from(refusal: Refusal) -> u32 {
+        match refusal {
+            Refusal::BadCommand => BAD_COMMAND,
+            Refusal::ShortAnswer => SHORT_ANSWER,
+        }
+    }
+}
+
+impl Follows {
+    // How long an answer must be; 0 where none is awaited.
+    pub fn awaited(self) -> u32
+        ensures { result ≡ awaited_of self }
+    {
+        match self {
+            Follows::Answers(size) => size,
+            Follows::Runs | Follows::Greets => 0,
+        }
     }
 }
 
@@ -58,37 +70,33 @@ fn follows_of(opcode: Opcode, payload: &[u8]) -> Follows
     requires { (has_length opcode (length payload.now) ≡ true) × (length payload.now ≤ longest_payload) }
     ensures { result ≡ follows_command opcode payload.now }
 {
-    if has_answer(opcode) {
+    if opcode.has_answer() {
         let command = command_of(opcode, payload.len() as u32, payload);
-        return Follows::Answers(checks_of(command).answer);
+        Follows::Answers(checks_of(command).answer)
+    } else if opcode == Opcode::Run {
+        Follows::Runs
+    } else {
+        Follows::Greets
     }
-    if number_of(opcode) == number_of(Opcode::Run) {
-        return Follows::Runs;
-    }
-    Follows::Greets
 }
 
 // Judges a command that is lent with a buffer for its answer.
-pub fn judge(number: u32, payload: &[u8], answer: &[u8]) -> Judged
+#[tactic(auto, using(crate::proofs::Commands::judgements))]
+pub fn judge(number: u32, payload: &[u8], answer: &[u8]) -> Result<Exchange, Refusal>
     ensures { result ≡ judged_of (lent number payload.now answer.now) }
 {
-    let Some(opcode) = opcode_of(number) else {
-        return Judged::Refused(BAD_COMMAND);
-    };
+    let opcode = opcode_of(number).ok_or(Refusal::BadCommand)?;
     let size = payload.len();
-    if !has_length(opcode, size) {
-        return Judged::Refused(BAD_COMMAND);
-    }
-    if LONGEST_PAYLOAD < size {
-        return Judged::Refused(BAD_COMMAND);
+    if !opcode.has_length(size) || LONGEST_PAYLOAD < size {
+        return Err(Refusal::BadCommand);
     }
     let follows = follows_of(opcode, payload);
-    if answer.len() < (awaited_of(follows) as usize) {
-        return Judged::Refused(SHORT_ANSWER);
+    if answer.len() < (follows.awaited() as usize) {
+        return Err(Refusal::ShortAnswer);
     }
-    Judged::Accepted(Exchange {
+    Ok(Exchange {
         opcode: low_byte(number),
         size: size as u32,
-        follows: follows,
+        follows,
     })
 }

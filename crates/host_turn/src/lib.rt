@@ -8,7 +8,7 @@ ghost use Rattle.host_flow.specs.Ask.{FitsTaking, FitsSending, TakenSo, SentSo};
 use crate::answer::{send_crc, send_crc_high, take_answer};
 use crate::byte::{took_awaited, took_crc_high, took_crc_low, took_length_high, took_length_low};
 use crate::payload::send_payload;
-use host_command::{Exchange, awaited_of};
+use host_command::Exchange;
 use host_flow::ask::{Sending, Taking};
 use host_flow::step::Step;
 use machine::step::{Moved, Progress, to};
@@ -33,7 +33,7 @@ pub fn take(
     ensures { TakenSo taking x reason payload.now input.now i answer.old result answer.new }
 {
     let follows = x.follows;
-    let awaited = awaited_of(follows);
+    let awaited = follows.awaited();
     match taking {
         Taking::Awaited(byte, next) => took_awaited(byte, next, reason, input[i]).by_one(),
         Taking::Any(next) => to(next, reason).by_one(),
@@ -60,7 +60,7 @@ pub fn send(
     ensures { SentSo sending x reason payload.now answer.now j output.old result output.new }
 {
     let follows = x.follows;
-    let awaited = awaited_of(follows);
+    let awaited = follows.awaited();
     match sending {
         Sending::Byte(byte, next) => {
             output[j] = byte;

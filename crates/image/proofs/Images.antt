@@ -9,14 +9,15 @@ use lib.Dec.{eqb, leb}
 use lib.ListN.{length}
 use borrow.Author.Tests.{leb-true}
 use borrow.Table.Steps.{cases}
+use Rattle.std.specs.Prelude.{Option, Some, None}
 use Rattle.image.specs.declared.rule.Rule.{Rule}
-use Rattle.image.specs.declared.Image.TheVariants.{Valid, Invalid}
+use Rattle.image.specs.declared.Image.{Image}
 use Rattle.image.specs.Header.{size_at, header_length}
 use Rattle.image.specs.Rule.{rule_number, first_broken}
 use Rattle.image.specs.Valid.{is_valid, image_at}
 
 -- whether no rule is broken, by a test
-by-test : (t : Bool) (rule later : Rule) → eqb (rule_number (cond t rule later)) 0 ≡ cond t (eqb (rule_number rule) 0) (eqb (rule_number later) 0)
+by-test : (t : Bool) (rule later : Option Rule) → eqb (rule_number (cond t rule later)) 0 ≡ cond t (eqb (rule_number rule) 0) (eqb (rule_number later) 0)
 by-test true rule later = refl
 by-test false rule later = refl
 
@@ -34,22 +35,22 @@ module _ (memory : List ℕ) (offset : ℕ) where
       (λ t. leb-true end (length memory) t)
       (λ t. absurd (let q : false ≡ true = simp (t, by-test, either) at e in let z : ◌≡◌ {A = ℕ} 0 1 = cc in omega arith))
 
-  module _ (id size : ℕ) (found : image_at memory offset ≡ Valid id size) where
+  module _ (image : Image) (found : image_at memory offset ≡ Some image) where
     pub found-valid : is_valid memory offset ≡ true
     unfolding image_at
     found-valid =
         cases (is_valid memory offset)
         (λ t. t)
-        (λ t. absurd (let q : Invalid ≡ Valid id size = simp t at found in let z : ◌≡◌ {A = ℕ} 0 1 = cc in omega arith))
+        (λ t. absurd (let q : None ≡ Some image = simp t at found in let z : ◌≡◌ {A = ℕ} 0 1 = cc in omega arith))
 
-    pub found-size : size ≡ size_at memory offset
+    pub found-size : image.size ≡ size_at memory offset
     unfolding image_at
     found-size = let q = simp found-valid at found in cc q
 
-    pub found_inside : offset + header_length + size ≤ length memory
+    pub found_inside : offset + header_length + image.size ≤ length memory
     found_inside = omega (arith, valid-inside found-valid, found-size)
 
-  pub found-invalid : image_at memory offset ≡ Invalid → is_valid memory offset ≡ false
+  pub found-invalid : image_at memory offset ≡ None → is_valid memory offset ≡ false
   unfolding image_at
   found-invalid e =
       cases (is_valid memory offset)

@@ -1,2 +1,2 @@
-pub mod Broken
+pub mod Headers
 pub mod Images

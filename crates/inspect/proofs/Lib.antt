@@ -1,1 +1,2 @@
+pub mod Missing
 pub mod Exactness

@@ -4,7 +4,7 @@ ghost use Rattle.inspect.specs.Image.{read_image};
 
 use image::HEADER;
 use image::rule::{Rule, first_broken, number_of};
-use numbers::number32_at;
+use numbers::number_at;
 use wire::range::place_in;
 
 // Where the version's field begins in the header.
@@ -12,7 +12,7 @@ const VERSION: usize = 12;
 
 // The rule's number, 0 for a valid image, and what the header says. Where the header does not lie in the memory, zeros.
 #[repr(C)]
-#[derive(Clone, Copy)]
+#[derive(Clone, Copy, Debug, Default, PartialEq, Eq)]
 pub struct ImageRead {
     pub rule: u32,
     pub id: u32,
@@ -22,23 +22,21 @@ pub struct ImageRead {
 }
 
 // The image whose header begins at an offset of a memory.
+#[tactic(auto, using(crate::proofs::Missing::headers), unfolding(crate::specs::Image::read_image))]
 pub fn read_image(memory: &[u8], offset: u32) -> ImageRead
     ensures { result ≡ read_image memory.now offset }
 {
     let start = offset as usize;
-    let Some(_) = place_in(start, HEADER, 0, memory.len()) else {
+    if place_in(start, HEADER, 0, memory.len()).is_none() {
         return ImageRead {
-            rule: number_of(Rule::Header),
-            id: 0,
-            size: 0,
-            version_place: 0,
-            code_place: 0,
+            rule: u32::from(Rule::Header),
+            ..ImageRead::default()
         };
-    };
+    }
     ImageRead {
         rule: number_of(first_broken(memory, start)),
-        id: memory[start + 3] as u32,
-        size: number32_at(memory, start + 4),
+        id: u32::from(memory[start + 3]),
+        size: number_at::<4>(memory, start + 4),
         version_place: start + VERSION,
         code_place: start + HEADER,
     }

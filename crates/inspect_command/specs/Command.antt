@@ -1,10 +1,13 @@
 -- What a command's payload says, in numbers (rules, 6.7), or its refusal with 11 or 12 (rules, 2.3).
 -- Assumes nothing.
-use Rattle.std.specs.Prelude.{ℕ, List, cond, not, ltb, length, Option, Some, None}
+use Rattle.std.specs.Prelude.{ℕ, List, cond, not, ltb, length, Option, Some, None, Result, Ok, Err}
+use Rattle.opcodes.specs.declared.Opcode.{Opcode}
 use Rattle.command.specs.declared.payload.Command.{Command}
 use Rattle.command.specs.declared.payload.Command.TheVariants.{Write, Read, Copy, Erase, Run, ReadQspi, Version, ChipErase, DirectWrite}
 use Rattle.opcodes.specs.Opcode.{unknown_opcode, bad_length, opcode_of, has_length}
 use Rattle.command.specs.Payload.{command_of}
+use Rattle.inspect_command.specs.declared.Refusal.{Refusal}
+use Rattle.inspect_command.specs.declared.Refusal.TheVariants.{UnknownOpcode, BadLength}
 use Rattle.inspect_command.specs.declared.CommandRead.{CommandRead}
 use Rattle.opcodes.specs.declared.Opcode.{Opcode}
 
@@ -30,6 +33,15 @@ numbers_of (ReadQspi offset n) = says 0 offset.0 n 0
 numbers_of Version = says 0 0 0 0
 numbers_of ChipErase = says 0 0 0 0
 numbers_of (DirectWrite verify offset n) = says 0 offset.0 n verify
+
+abbrev pub refusal_number : Refusal → ℕ
+refusal_number UnknownOpcode = unknown_opcode
+refusal_number BadLength = bad_length
+
+-- a command's numbers, or a refusal's
+abbrev pub told : Result Command Refusal → CommandRead
+told (Ok command) = numbers_of command
+told (Err refusal) = refused (refusal_number refusal)
 
 abbrev pub read_by : Option Opcode → (payload : List ℕ) → CommandRead
 read_by None payload = refused unknown_opcode

@@ -9,7 +9,11 @@ use lib.Dec.{eqb}
 use borrow.Author.Tests.{eqb-true, eqb-false}
 use borrow.Table.Steps.{cases}
 use Rattle.machine.specs.Session.{Session, Read, sound, unsound, refused, accepted, read_result, result_of}
+use Rattle.machine.specs.Told.{refusal_number}
 use Rattle.machine.specs.declared.Record.{Record}
+use Rattle.machine.specs.declared.refusal.Refusal.{Refusal}
+use Rattle.machine.specs.declared.refusal.Refusal.TheVariants.{WorkLength, RamLength, FlashLength}
+use Rattle.machine.specs.declared.refusal.Refusal.TheVariants as refusal
 
 pub refused-keeps : {A M S : Type 0} (σ : Session A M S) (r : Record) (mem : M) (input : List A) (reply : List ℕ) →
     ((result_of σ r mem input reply).report.number ≡ 0 → ⊥) → (result_of σ r mem input reply).report.session ≡ r
@@ -67,3 +71,10 @@ sound-same a b e = cc
 
 pub never-sound : {S : Type 0} (s : S) → unsound ≡ sound s → ⊥
 never-sound s e = let z : ◌≡◌ {A = ℕ} 0 1 = cc in omega arith
+
+-- every refusal has a number
+pub some-number : (why : Refusal) → refusal_number why ≡ 0 → ⊥
+some-number WorkLength e = omega arith
+some-number RamLength e = omega arith
+some-number FlashLength e = omega arith
+some-number refusal.Record e = omega arith

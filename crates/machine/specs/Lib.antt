@@ -18,3 +18,4 @@ pub mod SessionLaws
 pub mod SessionClaim
 pub mod Reach
 pub mod Leaving
+pub mod Told

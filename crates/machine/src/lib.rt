@@ -2,16 +2,16 @@
 #![tactic(auto)]
 
 ghost use Rattle.std.specs.Prelude.{◌≡◌};
-ghost use Rattle.machine.specs.Session.{start_record, refused_report};
+ghost use Rattle.machine.specs.Session.{start_record};
+
+use crate::stop::Standing;
 
 pub mod ask;
+pub mod refusal;
 pub mod step;
 pub mod stop;
 pub mod word;
 pub mod words;
-
-// The number given for an unsound record.
-pub const BAD_RECORD: u32 = 4;
 
 // What the caller keeps of a session between calls. An accepted call hands out 0 for the numbers that a phase does not use.
 #[derive(Clone, Copy)]
@@ -26,27 +26,13 @@ pub struct Record {
     pub spare: u32,
 }
 
-// What a call gives back: the number 0 and what it did, or a refusal's number, zeros and the record as it was given.
+// What an accepted call did, and the record for the next one.
 #[derive(Clone, Copy)]
-pub struct Report {
-    pub number: u32,
-    pub standing: u32,
+pub struct Accepted {
+    pub standing: Standing,
     pub taken: usize,
     pub sent: usize,
     pub session: Record,
-}
-
-// The report of a refused call.
-pub fn refused(number: u32, session: Record) -> Report
-    ensures { result ≡ refused_report number session }
-{
-    Report {
-        number,
-        standing: 0,
-        taken: 0,
-        sent: 0,
-        session,
-    }
 }
 
 // The record of a session at its flow's first step, by the number of its kind.

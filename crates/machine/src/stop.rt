@@ -1,9 +1,9 @@
-// The loop over a session's actions: how far a call has come, where it stops, and what it then reports.
+// The loop over a session's actions: how far a call has come, where it stops, and what it then tells.
 ghost use Rattle.std.specs.Prelude.{◌≡◌, ◌+◌, ◌≤◌};
-ghost use Rattle.machine.specs.Stop.{standing_number, accepted_report};
+ghost use Rattle.machine.specs.Stop.{standing_number, accepted_at};
 
 use crate::step::Moved;
-use crate::{Record, Report};
+use crate::{Accepted, Record};
 
 // Why a call stops: an action needs a byte, or room, or no action is left.
 #[derive(Clone, Copy, Debug, PartialEq, Eq)]
@@ -82,13 +82,12 @@ impl<S: Copy> Place<S> {
 }
 
 impl<S: Copy> Stop<S> {
-    // The report of an accepted call, with the record of its last step.
-    pub fn report(self, session: Record) -> Report
-        ensures { result ≡ accepted_report self session }
+    // What the accepted call did, with the record of its last step.
+    pub fn accepted(self, session: Record) -> Accepted
+        ensures { result ≡ accepted_at self session }
     {
-        Report {
-            number: 0,
-            standing: self.standing.into(),
+        Accepted {
+            standing: self.standing,
             taken: self.at.taken,
             sent: self.at.sent,
             session,

@@ -1,4 +1,4 @@
--- Laws of stores: loops that go through a part, a part that was changed and put back, and bytes laid after others.
+-- Laws of stores: a loop that goes through a part, a part that was changed and put back, and bytes laid after others.
 -- Assumes nothing.
 use Prim.Native.Nat.{ℕ, suc, ◌+◌, ◌-◌, ◌<◌, ◌≤◌}
 use mathlib.Core.Path.{◌≡◌, sym, ◌∙◌}
@@ -12,30 +12,18 @@ use lib.Seq.{set-append_seam, sets, sets-eq, paste}
 use borrow.Rule.Slice.PartMut.{mid_of, put_mid}
 use Rattle.memory.specs.Store.{laid, changed_from, part_of}
 
--- a loop through a part, with what is left to do of a change from `i` on
-module _ (part whole : List ℕ) (i : ℕ) (left : List ℕ → List ℕ) (so_far : changed_from i left part ≡ whole) where
-  -- a turn stores the next byte
-  pub next-byte : (byte : ℕ) (after : List ℕ → List ℕ) → i < length part → left (drop i part) ≡ byte ∷ after (drop (i + 1) part)
-      → changed_from (i + 1) after (set part i byte) ≡ whole
-  next-byte byte after room e =
-      let past : i < suc i = omega arith in
-      rw (add-one, take-suc-set part i byte room, drop-set-lt (suc i) part i byte past, append_assoc) (rw (e, add-one) at so_far)
-
-  -- what is left changes nothing
-  pub no_byte : left (drop i part) ≡ drop i part → part ≡ whole
-  no_byte e = sym (take-append-drop i part) ∙ (rw e at so_far)
-
 -- a loop that stores bytes at the front of a part, each joined with the one that it finds there
 module _ (change : List ℕ → List ℕ → List ℕ) (bytes part whole : List ℕ) (i : ℕ) (so_far : changed_from i (change (drop i bytes)) part ≡ whole) where
   pub stored_more : (join : ℕ → ℕ → ℕ) → ((old new : ℕ) (olds news : List ℕ) → change (new ∷ news) (old ∷ olds) ≡ join old new ∷ change news olds)
       → i < length bytes → i < length part
       → changed_from (i + 1) (change (drop (i + 1) bytes)) (set part i (join (get_or part i 0) (get_or bytes i 0))) ≡ whole
   stored_more join one more room =
-      next-byte part whole i (change (drop i bytes)) so_far _ (change (drop (i + 1) bytes)) room
-      (rw (add-one, drop-cons bytes i 0 more, drop-cons part i 0 room) (one _ _ _ _))
+      let past : i < suc i = omega arith in
+      rw (add-one, take-suc-set part i _ room, drop-set-lt (suc i) part i _ past, append_assoc)
+      (rw (drop-cons bytes i 0 more, drop-cons part i 0 room, one _ _ _ _) at so_far)
 
   pub stored-all : ((olds : List ℕ) → change [] olds ≡ olds) → length bytes ≤ i → part ≡ whole
-  stored-all none past = no_byte part whole i (change (drop i bytes)) so_far (rw (drop_of_length-le bytes past) (none _))
+  stored-all none past = sym (take-append-drop i part) ∙ (rw (drop_of_length-le bytes past, none _) at so_far)
 
 -- a part that lies in a memory
 pub part_length : (place count : ℕ) (memory : List ℕ) → place + count ≤ length memory → length (part_of place count memory) ≡ count

@@ -12,10 +12,8 @@ pub fn burn(part: &mut [u8], bytes: &[u8])
     requires { length bytes.now ≤ length part.old }
     ensures { part.new ≡ burnt bytes.now part.old }
 {
-    let mut i = 0;
-    while i < bytes.len() {
-        part[i] = part[i] & bytes[i];
-        i += 1;
+    for (i, &byte) in bytes.iter().enumerate() {
+        part[i] &= byte;
     }
 }
 
@@ -23,11 +21,7 @@ pub fn burn(part: &mut [u8], bytes: &[u8])
 pub fn wipe(part: &mut [u8])
     ensures { part.new ≡ blank (length part.old) }
 {
-    let mut i = 0;
-    while i < part.len() {
-        part[i] = ERASED;
-        i += 1;
-    }
+    part.fill(ERASED);
 }
 
 // Erases every sector that touches the `size` bytes from `offset` on.

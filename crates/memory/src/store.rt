@@ -7,9 +7,5 @@ pub fn lay(part: &mut [u8], bytes: &[u8])
     requires { length bytes.now ≤ length part.old }
     ensures { part.new ≡ laid bytes.now part.old }
 {
-    let mut i = 0;
-    while i < bytes.len() {
-        part[i] = bytes[i];
-        i += 1;
-    }
+    part[..bytes.len()].copy_from_slice(bytes);
 }

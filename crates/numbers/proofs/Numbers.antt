@@ -1,17 +1,16 @@
 -- Laws of little-endian numbers, over the width.
 -- Assumes nothing.
-use Rattle.std.specs.Prelude.{Some, None}
-use Prim.Native.Nat.{ℕ, zero, suc, ◌+◌, ◌/◌, ◌^◌, ◌≤◌, ◌<◌}
-use mathlib.Core.Path.{◌≡◌, refl, ap}
-use mathlib.Core.List.{List, [], ◌∷◌}
-use native.Mathlib.Nat.{add-zero, add-suc, pow-suc, div-add-mod, div-lt_iff_lt-mul}
+use Rattle.std.specs.Int.{w32, byte_at, bytes_low_first, to_le_bytes, from_le_bytes}
+use Rattle.std.proofs.lemmas.List.Edits.{sets, sets-eq}
+use Prim.Native.Nat.{ℕ, zero, suc, ◌+◌, ◌-◌, ◌/◌, ◌^◌, ◌≤◌, ◌<◌}
+use mathlib.Core.Path.{◌≡◌, refl, sym, ap, ◌∙◌}
+use mathlib.Core.List.{List, [], ◌∷◌, append_assoc}
+use native.Mathlib.Nat.{pow-suc, div-one, div-add-mod, div-div-eq-div-mul, div-lt_iff_lt-mul}
 use native.Mathlib.Omega.{arith}
-use lib.ListN.{length, take, drop, get_or}
-use lib.Seq.{drop-cons}
-use borrow.Author.Tests.{le-leb}
-use Rattle.wire.specs.Range.{place_in}
-use Rattle.wire.proofs.Ranges.{range-known, range-over}
-use Rattle.numbers.specs.Number.{number_of, bytes_of, number_at, read_at}
+use lib.ListN.{length, take, replicate}
+use lib.Seq.{drop-drop}
+use borrow.Rule.Slice.PartMut.{put_mid}
+use Rattle.numbers.specs.Number.{number_of, low_byte, bytes_of}
 
 -- the bytes of a number make it again, at every width that it has room in
 pub bytes-number : (width n : ℕ) → n < 256 ^ width → number_of (bytes_of width n) ≡ n
@@ -20,36 +19,40 @@ bytes-number (suc width) n h =
     let less : n / 256 < 256 ^ width = (div-lt_iff_lt-mul {k = 256} {x = n} {y = 256 ^ width} (omega arith)).1 (rw (pow-suc 256 width) at h) in
     omega (arith, bytes-number width (n / 256) less, div-add-mod n 256)
 
--- the elements at place + i, place + (i + 1) and so on, `width` of them
-abbrev pub elements : List ℕ → (place i width : ℕ) → List ℕ
-elements s p i zero = []
-elements s p i (suc w) = get_or s (p + i) 0 ∷ elements s p (suc i) w
+-- the number that up to 4 bytes make at the front of a word whose other bytes are 0
+word-number : (bytes : List ℕ) → length bytes ≤ 4 → from_le_bytes w32 (put_mid 0 (length bytes) (replicate 4 0) bytes) ≡ number_of bytes
+word-number [] h = refl
+word-number (a ∷ []) h = omega arith
+word-number (a ∷ b ∷ []) h = omega arith
+word-number (a ∷ b ∷ c ∷ []) h = omega arith
+word-number (a ∷ b ∷ c ∷ d ∷ []) h = omega arith
+word-number (a ∷ b ∷ c ∷ d ∷ e ∷ more) h = absurd (omega arith)
 
-elements-taken : (s : List ℕ) (p i w : ℕ) → p + i + w ≤ length s → take w (drop (p + i) s) ≡ elements s p i w
-elements-taken s p i zero h = refl
-elements-taken s p i (suc w) h =
-    let here : p + i < length s = omega (arith, h) in
-    let next : p + suc i + w ≤ length s = omega (arith, h) in
-    rw (drop-cons s (p + i) 0 here) (ap (λ (l : List ℕ). get_or s (p + i) 0 ∷ l) (rw (add-suc p i) at (elements-taken s p (suc i) w next)))
+pub number-in : (bytes : List ℕ) (width : ℕ) → width ≤ 4 → length bytes ≡ width → from_le_bytes w32 (put_mid 0 width (replicate 4 0) bytes) ≡ number_of bytes
+number-in bytes width h e = rw (← e) (word-number bytes (omega arith))
 
--- a number of one byte and `more`, all of which are there, by these bytes
-pub number-at : (more : ℕ) (s : List ℕ) (p : ℕ) → p + suc more ≤ length s → number_at (suc more) s p ≡ number_of (get_or s p 0 ∷ elements s p 1 more)
-unfolding number_at
-number-at w s p h = ap number_of (rw add-zero at (elements-taken s p 0 (suc w) (omega (arith, h))))
+-- the lowest bytes of a number, from byte i on
+byte-low : (i n : ℕ) → byte_at i n ≡ low_byte (n / 256 ^ i)
+byte-low zero n = ap low_byte (sym (div-one n))
+byte-low (suc i) n = refl
 
-module _ (w : ℕ) (s : List ℕ) (p : ℕ) {place : ℕ} (e : place_in p w 0 (length s) ≡ Some place) where
-  -- the place is judged to be inside: all bytes of the number are there
-  pub inside-fits : place + w ≤ length s
-  inside-fits = omega (arith, range-known p w 0 (length s) place e)
+low-bytes : (i count width n : ℕ) → width ≤ count → take width (bytes_low_first i count n) ≡ bytes_of width (n / 256 ^ i)
+low-bytes i count zero n h = refl
+low-bytes i zero (suc width) n h = absurd (omega arith)
+low-bytes i (suc count) (suc width) n h =
+    let next : n / 256 ^ suc i ≡ n / 256 ^ i / 256 = ap (λ (k : ℕ). n / k) (pow-suc 256 i) ∙ sym (div-div-eq-div-mul n (256 ^ i) 256) in
+    rw (byte-low i n, low-bytes (suc i) count width n (omega arith), next)
 
-  pub read-inside : read_at w s p ≡ Some (number_at w s place)
-  unfolding read_at
-  read-inside =
-      let same : p ≡ place = omega (arith, range-known p w 0 (length s) place e) in
-      let fits : p + w ≤ length s = omega (arith, range-known p w 0 (length s) place e) in
-      rw (le-leb (p + w) (length s) fits) (ap (λ (q : ℕ). Some (number_at w s q)) same)
+length-bytes : (width n : ℕ) → length (bytes_of width n) ≡ width
+length-bytes zero n = refl
+length-bytes (suc width) n = ap suc (length-bytes width (n / 256))
 
--- it is judged not to be
-pub read-outside : (w : ℕ) (s : List ℕ) (p : ℕ) → place_in p w 0 (length s) ≡ None → read_at w s p ≡ None
-unfolding read_at
-read-outside w s p e = rw (range-over p w (length s) e)
+-- these bytes put in the place of others
+pub put-bytes : (out : List ℕ) (place width number : ℕ) (bytes : List ℕ) → width ≤ 4 → place + width ≤ length out → bytes ≡ take width (to_le_bytes w32 number)
+    → put_mid place (place + width - place) out bytes ≡ sets out place (bytes_of width number)
+put-bytes out place width number bytes h room e =
+    let low : take width (to_le_bytes w32 number) ≡ bytes_of width number = rw div-one at (low-bytes 0 4 width number h) in
+    let many : place + width - place ≡ width = omega arith in
+    let length_is = length-bytes width number in
+    let fits : place + length (bytes_of width number) ≤ length out = rw length_is room in
+    simp (sets-eq (bytes_of width number) out place fits, e, low, many, length_is, drop-drop, append_assoc)

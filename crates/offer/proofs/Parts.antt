@@ -8,11 +8,11 @@ use native.Mathlib.Omega.{arith}
 use lib.Dec.{eqb}
 use lib.ListN.{length, take, drop}
 use denote.Ref.{Bor}
-use Rattle.version.specs.declared.order.Comparison.{Comparison}
-use Rattle.version.specs.declared.order.Comparison.TheVariants.{Lower, Same, Higher, Malformed}
+use Rattle.std.specs.Prelude.{Option, Some, None}
+use Rattle.std.specs.declared.cmp.Ordering.{Ordering}
+use Rattle.std.specs.declared.cmp.Ordering.TheVariants.{Less, Equal, Greater}
 use Rattle.version.specs.Order.{compared_fields}
 use Rattle.image.specs.declared.Image.{Image}
-use Rattle.image.specs.declared.Image.TheVariants.{Valid, Invalid}
 use Rattle.image.specs.Header.{version_at, header_length, code_at}
 use Rattle.image.specs.Valid.{image_at}
 use Rattle.image.proofs.Images.{found-size, found_inside}
@@ -26,17 +26,17 @@ module _ (i c : List ℕ) where
     pub code : take o.size (drop o.place (file_of o i c)) ≡ offer_code i c
 
   -- the code of an image that was found at the start of a file
-  whole : (file : List ℕ) (id size : ℕ) → image_at file 0 ≡ Valid id size → take size (drop header_length file) ≡ code_at file 0
-  whole file id size e = ap (λ (k : ℕ). take k (drop header_length file)) (found-size file 0 id size e)
+  whole : (file : List ℕ) (image : Image) → image_at file 0 ≡ Some image → take image.size (drop header_length file) ≡ code_at file 0
+  whole file image e = ap (λ (k : ℕ). take k (drop header_length file)) (found-size file 0 image e)
 
-  by-images : (I C : Image) (v : Comparison) → image_at i 0 ≡ I → image_at c 0 ≡ C → offer_of i c ≡ judged I C v → Names (judged I C v)
+  by-images : (I C : Option Image) (v : Option Ordering) → image_at i 0 ≡ I → image_at c 0 ≡ C → offer_of i c ≡ judged I C v → Names (judged I C v)
   unfolding offer_code
-  by-images Invalid C v a b e = record { inside = omega arith; code = simp e }
-  by-images (Valid x m) Invalid v a b e = record { inside = omega arith; code = simp e }
-  by-images (Valid x m) (Valid y k) Malformed a b e = record { inside = omega arith; code = simp e }
-  by-images (Valid x m) (Valid y k) Lower a b e = record { inside = found_inside c 0 y k b; code = simp e (whole c y k b) }
-  by-images (Valid x m) (Valid y k) Same a b e = record { inside = found_inside i 0 x m a; code = simp e (whole i x m a) }
-  by-images (Valid x m) (Valid y k) Higher a b e = record { inside = found_inside i 0 x m a; code = simp e (whole i x m a) }
+  by-images None C v a b e = record { inside = omega arith; code = simp e }
+  by-images (Some x) None v a b e = record { inside = omega arith; code = simp e }
+  by-images (Some x) (Some y) None a b e = record { inside = omega arith; code = simp e }
+  by-images (Some x) (Some y) (Some Less) a b e = record { inside = found_inside c 0 y b; code = simp e (whole c y b) }
+  by-images (Some x) (Some y) (Some Equal) a b e = record { inside = found_inside i 0 x a; code = simp e (whole i x a) }
+  by-images (Some x) (Some y) (Some Greater) a b e = record { inside = found_inside i 0 x a; code = simp e (whole i x a) }
 
   pub offer-names : Names (offer_of i c)
   unfolding offer_of

@@ -2,10 +2,10 @@
 #![tactic(auto)]
 
 ghost use Rattle.std.specs.Prelude.{◌≡◌};
-ghost use Rattle.offer.specs.Offer.{refused, wins, offer_of, HandsBack};
+ghost use Rattle.offer.specs.Offer.{refusal_number, file_number, offered, offer_of, HandsBack};
 
-use image::{HEADER, Image, image_at, version_of};
-use version::order::{Comparison, compare_fields};
+use image::{HEADER, image_at, version_of};
+use version::order::compare_fields;
 use version::rank::MALFORMED;
 
 // The number given where the installed image is not valid.
@@ -20,9 +20,57 @@ pub const INSTALLED: u32 = 1;
 // The number of the candidate.
 pub const CANDIDATE: u32 = 2;
 
-// The number 0, the file that wins, and where its code lies there; or a refusal's number and zeros.
+// Why nothing is offered.
+#[derive(Clone, Copy, Debug, PartialEq, Eq)]
+pub enum Refusal {
+    BadInstalled,
+    BadCandidate,
+    // Either version's text is malformed.
+    Malformed,
+}
+
+// A refusal's number.
+impl From<Refusal> for u32 {
+    ghost from_gives = { λ refusal number. number ≡ refusal_number refusal };
+
+    fn from(refusal: Refusal) -> u32 {
+        match refusal {
+            Refusal::BadInstalled => BAD_INSTALLED,
+            Refusal::BadCandidate => BAD_CANDIDATE,
+            Refusal::Malformed => MALFORMED,
+        }
+    }
+}
+
+// One of the two files.
+#[derive(Clone, Copy, Debug, PartialEq, Eq)]
+pub enum File {
+    Installed,
+    Candidate,
+}
+
+// A file's number.
+impl From<File> for u32 {
+    ghost from_gives = { λ file number. number ≡ file_number file };
+
+    fn from(file: File) -> u32 {
+        match file {
+            File::Installed => INSTALLED,
+            File::Candidate => CANDIDATE,
+        }
+    }
+}
+
+// The file that wins, and how many bytes of code it has.
+#[derive(Clone, Copy, Debug, PartialEq, Eq)]
+pub struct Winner {
+    pub file: File,
+    pub size: usize,
+}
+
+// The number 0, the file that wins, and where its code lies there; or a refusal's number and zeros, as C takes it.
 #[repr(C)]
-#[derive(Clone, Copy)]
+#[derive(Clone, Copy, Debug, PartialEq, Eq)]
 pub struct Offered {
     pub number: u32,
     pub file: u32,
@@ -30,44 +78,48 @@ pub struct Offered {
     pub size: usize,
 }
 
-fn refused(number: u32) -> Offered
-    ensures { result ≡ refused number }
-{
-    Offered {
-        number: number,
-        file: 0,
-        place: 0,
-        size: 0,
+impl From<Result<Winner, Refusal>> for Offered {
+    ghost from_gives = { λ winner result. result ≡ offered winner };
+
+    fn from(winner: Result<Winner, Refusal>) -> Offered {
+        match winner {
+            Ok(winner) => Offered {
+                number: 0,
+                file: u32::from(winner.file),
+                place: HEADER,
+                size: winner.size,
+            },
+            Err(refusal) => Offered {
+                number: u32::from(refusal),
+                file: 0,
+                place: 0,
+                size: 0,
+            },
+        }
     }
 }
 
-fn wins(file: u32, size: usize) -> Offered
-    ensures { result ≡ wins file size }
+// The winner of two files: the candidate, where its version is the higher one.
+#[tactic(auto, using(image::proofs::Images::found_inside), unfolding(crate::specs::Offer::offer_of))]
+fn decide(installed: &[u8], candidate: &[u8]) -> Result<Winner, Refusal>
+    ensures { offered result ≡ offer_of installed.now candidate.now }
 {
-    Offered {
-        number: 0,
-        file: file,
-        place: HEADER,
-        size: size,
-    }
+    let ours = image_at(installed, 0).ok_or(Refusal::BadInstalled)?;
+    let other = image_at(candidate, 0).ok_or(Refusal::BadCandidate)?;
+    let versions = compare_fields(version_of(installed), version_of(candidate));
+    let (file, size) = if versions.ok_or(Refusal::Malformed)?.is_lt() {
+        (File::Candidate, other.size)
+    } else {
+        (File::Installed, ours.size)
+    };
+    Ok(Winner { file, size })
 }
 
 // The offer of two files.
 pub fn judge(installed: &[u8], candidate: &[u8]) -> Offered
     ensures { result ≡ offer_of installed.now candidate.now }
 {
-    let Image::Valid(_, size) = image_at(installed, 0) else {
-        return refused(BAD_INSTALLED);
-    };
-    let Image::Valid(_, other) = image_at(candidate, 0) else {
-        return refused(BAD_CANDIDATE);
-    };
-    match compare_fields(version_of(installed), version_of(candidate)) {
-        Comparison::Malformed => refused(MALFORMED),
-        Comparison::Lower => wins(CANDIDATE, other),
-        Comparison::Same => wins(INSTALLED, size),
-        Comparison::Higher => wins(INSTALLED, size),
-    }
+    Offered::from(decide(installed, candidate))
 }
 
 // The code of the file that wins, as a part of that file, and the offer's number. Where the offer is refused, the part is the
@@ -77,12 +129,13 @@ pub fn offer<'a>(installed: &'a [u8], candidate: &'a [u8], number: &mut u32) -> 
     ensures hands_back { HandsBack installed.entry candidate.entry result }
     ensures number_after { number.new ≡ (offer_of installed.now candidate.now).number }
 {
-    let offered = judge(installed, candidate);
-    *number = offered.number;
-    let place = offered.place;
-    let size = offered.size;
-    if offered.file == CANDIDATE {
-        return &candidate[place..place + size];
+    let winner = decide(installed, candidate);
+    *number = winner.map_or_else(u32::from, |_| 0);
+    let Ok(Winner { file, size }) = winner else {
+        return &installed[0..0];
+    };
+    match file {
+        File::Candidate => &candidate[HEADER..HEADER + size],
+        File::Installed => &installed[HEADER..HEADER + size],
     }
-    &installed[place..place + size]
 }

@@ -1,15 +1,15 @@
 -- Laws of the opcodes: their numbers, and the payloads that they have.
 -- Assumes nothing.
-use Rattle.std.specs.Prelude.{Option, Some}
-use Prim.Native.Nat.{ℕ, suc, ◌≤◌, ◌<◌}
+use Rattle.std.specs.Prelude.{Option, Some, None}
+use Rattle.std.specs.Option.{option_map}
+use Prim.Native.Nat.{ℕ, ◌≤◌}
 use mathlib.Core.Path.{◌≡◌, refl}
 use mathlib.Core.Bool.{Bool, true, false, cond}
 use mathlib.Core.List.{List, [], ◌∷◌}
 use lib.Dec.{eqb, ltb}
-use lib.ListN.{length, drop, get_or}
-use lib.Seq.{drop-cons}
 use native.Mathlib.Omega.{arith}
-use borrow.Author.Tests.{eqb-true, ltb-true, eq-eqb, ne_eqb}
+use borrow.Author.Tests.{eqb-true, ltb-true}
+use Rattle.std.specs.List.{find}
 use borrow.Table.Steps.{cases}
 use Rattle.wire.proofs.Tests.{in-cond}
 use Rattle.opcodes.specs.declared.Opcode.{Opcode}
@@ -29,13 +29,19 @@ opcode-back Version = refl
 opcode-back ChipErase = refl
 opcode-back DirectWrite = refl
 
--- a list of opcodes is gone through: the one at a place has the number, or those after it are left
-module _ (these : List Opcode) (i n : ℕ) (h : i < length these) where
-  pub found_here : opcode_number (get_or these i Write) ≡ n → among_these (drop i these) n ≡ Some (get_or these i Write)
-  found_here e = rw (drop-cons these i Write h, eq-eqb _ _ e) refl
+-- the first opcode with the number is the one that a search finds
+find-among : (these : List Opcode) (n : ℕ) → find (λ (o : Opcode). eqb (opcode_number o) n) these ≡ among_these these n
+find-among [] n = refl
+find-among (o ∷ others) n = rw (find-among others n) refl
 
-  pub found-behind : (opcode_number (get_or these i Write) ≡ n → ⊥) → among_these (drop i these) n ≡ among_these (drop (suc i) these) n
-  found-behind e = rw (drop-cons these i Write h, ne_eqb _ _ e) refl
+-- what `copied` leaves of what was found
+pub same-option : (r : Option Opcode) → r ≡ option_map (λ x. x) r
+same-option (Some x) = refl
+same-option None = refl
+
+pub find_opcode : (n : ℕ) → find (λ (o : Opcode). eqb (opcode_number o) n) opcodes ≡ opcode_of n
+unfolding opcode_of
+find_opcode n = find-among opcodes n
 
 found_number : (these : List Opcode) (n : ℕ) (opcode : Opcode) → among_these these n ≡ Some opcode → opcode_number opcode ≡ n
 found_number [] n opcode = λ e. cc
@@ -54,7 +60,7 @@ long-enough false fixed n e = omega (arith, eqb-true n fixed e)
 
 -- a payload holds its numbers
 pub never-shorter : (opcode : Opcode) (n : ℕ) → has_length opcode n ≡ true → data_place opcode ≤ n
-never-shorter opcode n e = long-enough (shape_of opcode).2 (data_place opcode) n e
+never-shorter opcode n e = long-enough (shape_of opcode).has_data (data_place opcode) n e
 
 -- only Run has its number
 run_alone : (opcode : Opcode) → is_run opcode ≡ true → opcode ≡ Run

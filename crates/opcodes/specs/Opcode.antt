@@ -1,6 +1,6 @@
 -- The opcodes, a row for each (rules, 6.6).
 -- Assumes nothing.
-use Rattle.std.specs.Prelude.{ℕ, ◌≡◌, Bool, true, false, cond, List, [], ◌∷◌, eqb, ltb, Option, Some, None}
+use Rattle.std.specs.Prelude.{ℕ, Bool, true, false, cond, List, [], ◌∷◌, eqb, ltb, Option, Some, None}
 use Rattle.opcodes.specs.declared.Opcode.{Opcode}
 use Rattle.opcodes.specs.declared.Opcode.TheVariants.{Write, Read, Copy, Erase, Run, ReadQspi, Version, ChipErase, DirectWrite}
 use Rattle.opcodes.specs.declared.Shape.{Shape}
@@ -12,8 +12,8 @@ unknown_opcode = 11
 abbrev pub bad_length : ℕ
 bad_length = 12
 
-abbrev pub shape : (number fixed : ℕ) (more answers : Bool) → Shape
-shape number fixed more answers = record { 0 = number; 1 = fixed; 2 = more; 3 = answers }
+abbrev pub shape : (number fixed : ℕ) (has_data has_answer : Bool) → Shape
+shape number fixed has_data has_answer = record { number = number; fixed = fixed; has_data = has_data; has_answer = has_answer }
 
 -- an opcode's number, how many bytes its payload's numbers take, whether data, of 1 byte or more, follow them, and whether it has an answer
 abbrev pub shape_of : Opcode → Shape
@@ -27,19 +27,12 @@ shape_of Version = shape 0x0B 0 false true
 shape_of ChipErase = shape 0x0C 0 false false
 shape_of DirectWrite = shape 0x12 5 true false
 
--- the same row
-pub record SameShape (a b : Shape) : Type 0 where
-  pub same_number : a.0 ≡ b.0
-  pub same_fixed : a.1 ≡ b.1
-  pub same_more : a.2 ≡ b.2
-  pub same_answers : a.3 ≡ b.3
-
 -- all of them
 abbrev pub opcodes : List Opcode
 opcodes = Write ∷ Read ∷ Copy ∷ Erase ∷ Run ∷ ReadQspi ∷ Version ∷ ChipErase ∷ DirectWrite ∷ []
 
 abbrev pub opcode_number : Opcode → ℕ
-opcode_number opcode = (shape_of opcode).0
+opcode_number opcode = (shape_of opcode).number
 
 -- the first of these opcodes that has the number
 abbrev pub among_these : List Opcode → (number : ℕ) → Option Opcode
@@ -51,14 +44,14 @@ opcode_of number = among_these opcodes number
 
 -- the payload lengths that an opcode has
 abbrev pub has_length : Opcode → (size : ℕ) → Bool
-has_length opcode size = let s = shape_of opcode in cond s.2 (ltb s.1 size) (eqb size s.1)
+has_length opcode size = let s = shape_of opcode in cond s.has_data (ltb s.fixed size) (eqb size s.fixed)
 
 abbrev pub has_answer : Opcode → Bool
-has_answer opcode = (shape_of opcode).3
+has_answer opcode = (shape_of opcode).has_answer
 
 -- where an opcode's data begin in a payload (rules, 6.7)
 abbrev pub data_place : Opcode → ℕ
-data_place opcode = (shape_of opcode).1
+data_place opcode = (shape_of opcode).fixed
 
 abbrev pub is_run : Opcode → Bool
 is_run opcode = eqb (opcode_number opcode) (opcode_number Run)

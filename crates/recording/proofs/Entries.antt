@@ -6,20 +6,28 @@ use mathlib.Core.Path.{◌≡◌, refl, sym, ap, ◌∙◌}
 use mathlib.Core.Bool.{Bool, true, false, cond, not}
 use mathlib.Core.List.{List, [], ◌∷◌, ◌++◌}
 use lib.Dec.{eqb, leb}
-use lib.ListN.{length, length-drop}
+use lib.ListN.{length, drop, length-take, length-drop, length-append}
 use borrow.Author.Tests.{eq-eqb, ne_eqb, eqb-true, eqb-false, leb-true}
 use borrow.Table.Steps.{cases}
 use Rattle.wire.proofs.Tests.{both_true}
 use Rattle.recording.specs.Form.{unknown_kind, cut_short, entry_head, kind_in, size_in, own_bytes, past_entry, is_kind, is_whole, entry_fault}
-use Rattle.recording.specs.Recording.{Entry, Recording, reads, refused, after, entries_at, entries_of, fault_of, joined_in}
+use Rattle.recording.specs.Recording.{Entry, Recording, reads, refused, after, entries_at, entries_of, fault_of, joined, joined_in}
 
 -- the entry that these bytes begin with
 abbrev pub entry_in : List ℕ → Entry
 entry_in bytes = record { kind = kind_in bytes; bytes = own_bytes bytes }
 
+pub no-entries : entries_of [] ≡ reads []
+unfolding entries_of entries_at
+no-entries = refl
+
 -- what follows an entry is shorter
 past-shorter : (byte : ℕ) (bytes : List ℕ) → length (past_entry (byte ∷ bytes)) ≤ length bytes
 past-shorter byte bytes = omega (arith, length-drop (entry_head + size_in (byte ∷ bytes)) (byte ∷ bytes))
+
+-- an entry's bytes and what follows it
+own-shorter : (bytes : List ℕ) → length (own_bytes bytes) + length (past_entry bytes) ≤ length bytes
+own-shorter bytes = omega (arith, length-take (size_in bytes) (drop entry_head bytes), length-drop entry_head bytes, length-drop (entry_head + size_in bytes) bytes)
 
 -- more entries than there can be change nothing
 fuel-same : (k l : ℕ) (bytes : List ℕ) → length bytes ≤ k → length bytes ≤ l → entries_at k bytes ≡ entries_at l bytes
@@ -107,3 +115,23 @@ joined-later kind bytes h e =
 pub reads_of : (bytes : List ℕ) → fault_of (entries_of bytes) ≡ 0 → Reads (entries_of bytes)
 unfolding entries_of
 reads_of bytes e = reads_at (length bytes) bytes e
+
+-- they are no more than all bytes
+joined-at : (kind fuel : ℕ) (bytes : List ℕ) → length (joined_in kind (entries_at fuel bytes)) ≤ length bytes
+unfolding entries_at
+joined-at kind zero bytes = omega arith
+joined-at kind (suc fuel) [] = omega arith
+joined-at kind (suc fuel) (byte ∷ bytes) = go (eqb (entry_fault (byte ∷ bytes)) 0) (entries_at fuel (past_entry (byte ∷ bytes))) (joined-at kind fuel (past_entry (byte ∷ bytes)))
+  where
+    go : (good : Bool) (rest : Recording) → length (joined_in kind rest) ≤ length (past_entry (byte ∷ bytes)) →
+        length (joined_in kind (cond good (after (entry_in (byte ∷ bytes)) rest) (refused (entry_fault (byte ∷ bytes))))) ≤ length (byte ∷ bytes)
+    go false rest h = omega arith
+    go true (refused number) h = omega arith
+    go true (reads entries) h =
+        cases (eqb (kind_in (byte ∷ bytes)) kind)
+        (λ t. rw t (omega (arith, h, length-append (own_bytes (byte ∷ bytes)) (joined kind entries), own-shorter (byte ∷ bytes))))
+        (λ f. rw f (omega (arith, h, past-shorter byte bytes)))
+
+pub joined-short : (kind : ℕ) (bytes : List ℕ) → length (joined_in kind (entries_of bytes)) ≤ length bytes
+unfolding entries_of
+joined-short kind bytes = joined-at kind (length bytes) bytes

@@ -1,5 +1,5 @@
+pub mod Faults
 pub mod Entries
-pub mod Places
 pub mod Runs
 pub mod Files
 pub mod Figures

@@ -1,165 +1,122 @@
--- Runs of a file, and what is left from one on.
+-- Runs, and what is left from one on.
 -- Assumes nothing.
-use Prim.Native.Nat.{ℕ, suc, ◌+◌, ◌-◌, ◌≤◌, ◌<◌}
+use Prim.Native.Nat.{ℕ, zero, suc, ◌+◌, ◌-◌, ◌≤◌, ◌<◌}
 use native.Mathlib.Omega.{arith}
 use mathlib.Core.Path.{◌≡◌, refl, sym, ap, ◌∙◌}
 use mathlib.Core.List.{List, [], ◌∷◌, ◌++◌}
-use lib.ListN.{length, get_or, take, drop, length-drop}
-use lib.Seq.{drop-cons, length-take-le, take-add, take_at, drop_at, drop-drop, drop-append-le}
+use lib.ListN.{length, get_or, take, drop, length-drop, length-append}
+use Rattle.std.proofs.lemmas.List.{take_rest}
+use lib.Seq.{length-take-le, take_at, drop-drop, drop-append-le}
 use borrow.Author.Tests.{eq-eqb, ne_eqb}
-use Rattle.recording.specs.Form.{entry_head, size_in, past_entry, entry_fault}
-use Rattle.recording.specs.Recording.{entries_of, fault_of, joined_in}
+use denote.Bor.{Bor}
+use Rattle.std.specs.List.{slice_range}
+use Rattle.recording.specs.Form.{kind_number, entry_head, kind_in, size_in, own_bytes, past_entry, entry_fault}
+use Rattle.recording.specs.Recording.{joined_in}
 use Rattle.recording.specs.Left.{left_from, left_in, Readable, IsRun, Leaves}
+use Rattle.recording.specs.declared.form.Kind.{Kind}
 use Rattle.recording.specs.declared.run.Run.{Run}
-use Rattle.recording.proofs.Entries.{first_good, fault-later, joined-later}
-use Rattle.recording.proofs.Places.{none-at-end, some-there, whole-at, past-at, kind_at}
+use Rattle.recording.proofs.Entries.{no-entries, whole-entry, first_good, fault-later, joined-later}
 
-abbrev pub run_of : (at past : ℕ) → Run
-run_of at past = record { at = at; past = past }
+pub empty : (bytes : List ℕ) → length bytes ≤ 0 → bytes ≡ []
+empty [] h = refl
+empty (byte ∷ bytes) h = absurd (let z : ⊥ = omega arith in z)
 
--- the entry at a place, where entries can be read
-module _ (kind : ℕ) (file : List ℕ) (entry : ℕ) (there : entry < length file) (r : Readable file entry) where
-  abbrev rest : List ℕ
-  rest = drop entry file
+pub not-empty : (bytes : List ℕ) → 0 < length bytes → bytes ≡ [] → ⊥
+not-empty bytes some e = let none = ap length e in omega arith
 
-  good : entry_fault rest ≡ 0
-  good = first_good rest (some-there file entry there) r.no_fault
+-- the whole of what is past a front
+pub all-past : (bytes : List ℕ) (place : ℕ) → slice_range bytes place (length bytes) ≡ drop place bytes
+all-past bytes place = take_rest bytes place
 
-  pub whole : entry + entry_head + size_in rest ≤ length file
-  whole = whole-at file entry there good
+-- the first of some entries
+module _ (entries : List ℕ) (there : 0 < length entries) (r : Readable entries) where
+  good : entry_fault entries ≡ 0
+  good = first_good entries there r.no_fault
 
-  pub readable-past : Readable file (entry + entry_head + size_in rest)
-  readable-past =
-      record {
-        inside = whole;
-        no_fault =
-            ap (λ bytes. fault_of (entries_of bytes)) (sym (past-at file entry there))
-            ∙ sym (fault-later rest (some-there file entry there) good)
-            ∙ r.no_fault;
-      }
+  pub whole : entry_head + size_in entries ≤ length entries
+  whole = whole-entry entries good
 
-  later : joined_in kind (entries_of (past_entry rest)) ≡ left_from kind file (entry + entry_head + size_in rest)
-  later = ap (λ bytes. joined_in kind (entries_of bytes)) (past-at file entry there)
+  readable-past : Readable (past_entry entries)
+  readable-past = record { no_fault = sym (fault-later entries there good) ∙ r.no_fault }
 
-  -- its bytes are a run, and begin what is left
-  pub run-here : get_or file entry 0 ≡ kind → left_in kind file (run_of (entry + entry_head) (entry + entry_head + size_in rest)) ≡ left_from kind file entry
-  run-here e =
-      let size : entry + entry_head + size_in rest - (entry + entry_head) ≡ size_in rest = omega arith in
-      let joined = joined-later kind rest (some-there file entry there) r.no_fault in
-      rw (size, ← drop-drop entry_head entry file, joined, kind_at file entry, eq-eqb _ _ e, later) refl
+  pub of-kind : (kind : ℕ) → kind_in entries ≡ kind → left_from kind entries ≡ own_bytes entries ++ left_from kind (past_entry entries)
+  of-kind kind e = joined-later kind entries there r.no_fault ∙ rw (eq-eqb _ _ e) refl
 
-  -- it is of another kind, or has no bytes
-  pub passed-kind : (get_or file entry 0 ≡ kind → ⊥) → left_from kind file (entry + entry_head + size_in rest) ≡ left_from kind file entry
-  passed-kind n =
-      let joined = joined-later kind rest (some-there file entry there) r.no_fault in
-      rw (joined, kind_at file entry, ne_eqb _ _ n, later) refl
+  pub of-other : (kind : ℕ) → (kind_in entries ≡ kind → ⊥) → left_from kind entries ≡ left_from kind (past_entry entries)
+  of-other kind n = joined-later kind entries there r.no_fault ∙ rw (ne_eqb _ _ n) refl
 
-  pub passed-empty : get_or file entry 0 ≡ kind → size_in rest ≡ 0 → left_from kind file (entry + entry_head + size_in rest) ≡ left_from kind file entry
-  passed-empty e none =
-      let joined = joined-later kind rest (some-there file entry there) r.no_fault in
-      rw (joined, kind_at file entry, eq-eqb _ _ e, later, none) refl
+-- a search has come to these entries
+pub record Finding (kind : Kind) (entries rest : List ℕ) : Type 0 where
+  pub readable : Readable rest
+  pub same : left_from (kind_number kind) rest ≡ left_from (kind_number kind) entries
 
--- a search that began at `from` has come to an entry
-pub record Finding (kind : ℕ) (file : List ℕ) (from entry : ℕ) : Type 0 where
-  pub further : from ≤ entry
-  pub readable : Readable file entry
-  pub same : left_from kind file entry ≡ left_from kind file from
+module _ {kind : Kind} {entries rest : List ℕ} (f : Finding kind entries rest) where
+  -- the entry is there, and is cut into its own bytes and what is after it
+  module _ (there : 0 < length rest) where
+    pub head-there : entry_head ≤ length rest
+    head-there = omega (arith, whole rest there f.readable)
 
-module _ {kind : ℕ} {file : List ℕ} {from entry : ℕ} (f : Finding kind file from entry) where
-  -- no entry is left
-  pub found_none : length file ≤ entry → Leaves kind file from (left_from kind file from) (run_of (length file) (length file))
-  found_none h =
-      let at : entry ≡ length file = omega (arith, f.readable.inside) in
-      let none : length file - length file ≡ 0 = omega arith in
-      record {
-        is_run = record { order = omega arith; readable = rw at at f.readable; at_end = λ e. refl };
-        further = omega (arith, f.further, at);
-        left_is = rw none (rw at at f.same);
-      }
+    pub size-there : (size : ℕ) → size ≡ size_in rest → size ≤ length (slice_range rest entry_head (length rest))
+    size-there size is = omega (arith, is, whole rest there f.readable, length-take-le (length rest - entry_head) (drop entry_head rest) (omega (arith, length-drop entry_head rest)))
 
-  -- the entry is at `entry`, and has `size` bytes
-  module _ (there : entry < length file) (size : ℕ) (is : size ≡ size_in (drop entry file)) where
-    pub all_there : entry + entry_head + size ≤ length file
-    all_there = rw is (whole kind file entry there f.readable)
+    module _ (size : ℕ) (is : size ≡ size_in rest) (bytes after : Bor (List ℕ))
+        (front : bytes.now ≡ take size (slice_range rest entry_head (length rest)))
+        (back : after.now ≡ drop size (slice_range rest entry_head (length rest))) where
+      own : bytes.now ≡ own_bytes rest
+      own = front ∙ ap (take size) (all-past rest entry_head) ∙ rw is refl
 
-    pub found_here : get_or file entry 0 ≡ kind → entry + entry_head < entry + entry_head + size →
-        Leaves kind file from (left_from kind file from) (run_of (entry + entry_head) (entry + entry_head + size))
-    found_here e h =
-        record {
-          is_run = record {
-            order = omega arith;
-            readable = rw is (readable-past kind file entry there f.readable);
-            at_end = λ q. absurd (let z : ⊥ = omega arith in z);
-          };
-          further = omega (arith, f.further);
-          left_is = rw is (run-here kind file entry there f.readable e) ∙ f.same;
-        }
+      later : after.now ≡ past_entry rest
+      later = back ∙ ap (drop size) (all-past rest entry_head) ∙ drop-drop size entry_head rest ∙ rw is refl
 
-    goes_on : left_from kind file (entry + entry_head + size_in (drop entry file)) ≡ left_from kind file entry → Finding kind file from (entry + entry_head + size)
-    goes_on e =
-        record {
-          further = omega (arith, f.further);
-          readable = rw is (readable-past kind file entry there f.readable);
-          same = rw is (e ∙ f.same);
-        }
+      pub after-shorter : length after.now < length rest
+      after-shorter = omega (arith, ap length later, length-drop (entry_head + size_in rest) rest, there)
 
-    pub other-kind : (get_or file entry 0 ≡ kind → ⊥) → Finding kind file from (entry + entry_head + size)
-    other-kind n = goes_on (passed-kind kind file entry there f.readable n)
+      pub found : kind_in rest ≡ kind_number kind → 0 < length bytes.now → Leaves kind (left_from (kind_number kind) entries) (record { kind = kind; bytes = bytes; after = after })
+      found e some =
+          record {
+            is_run = record { readable = rw later (readable-past rest there f.readable); at_end = λ none. absurd (not-empty bytes.now some none) };
+            same_kind = refl;
+            left_is = rw (own, later) (sym (of-kind rest there f.readable (kind_number kind) e) ∙ f.same);
+          }
 
-    pub no_bytes : get_or file entry 0 ≡ kind → entry + entry_head + size ≤ entry + entry_head → Finding kind file from (entry + entry_head + size)
-    no_bytes e h = goes_on (passed-empty kind file entry there f.readable e (omega (arith, is)))
+      pub other_kind : (kind_in rest ≡ kind_number kind → ⊥) → Finding kind entries after.now
+      other_kind n =
+          record {
+            readable = rw later (readable-past rest there f.readable);
+            same = rw later (sym (of-other rest there f.readable (kind_number kind) n) ∙ f.same);
+          }
 
--- a run has as many bytes as lie between its places
-pub run_long : (file : List ℕ) (run : Run) → IsRun file run → length (take (run.past - run.at) (drop run.at file)) ≡ run.past - run.at
-run_long file run is = length-take-le (run.past - run.at) (drop run.at file) (omega (arith, is.readable.inside, length-drop run.at file))
+      pub no_bytes : kind_in rest ≡ kind_number kind → length bytes.now ≤ 0 → Finding kind entries after.now
+      no_bytes e none =
+          record {
+            readable = rw later (readable-past rest there f.readable);
+            same =
+                let nothing : own_bytes rest ≡ [] = sym own ∙ empty bytes.now none in
+                rw later (sym (of-kind rest there f.readable (kind_number kind) e ∙ ap (λ bytes. bytes ++ left_from (kind_number kind) (past_entry rest)) nothing) ∙ f.same);
+          }
 
--- past some bytes of a run
-module _ (kind : ℕ) (file : List ℕ) (run : Run) (is : IsRun file run) (count : ℕ) (fits : run.at + count ≤ run.past) where
-  abbrev own : List ℕ
-  own = take (run.past - run.at) (drop run.at file)
-
-  long : length own ≡ run.past - run.at
-  long = run_long file run is
-
-  pub within-run : run.at + count < run.past → Leaves kind file (run.at + count) (drop count (left_in kind file run)) (run_of (run.at + count) run.past)
-  within-run h =
-      record {
-        is_run = record { order = fits; readable = is.readable; at_end = λ e. absurd (let z : ⊥ = omega arith in z) };
-        further = omega arith;
-        left_is =
-            let more = run.past - (run.at + count) in
-            let sum : run.past - run.at ≡ count + more = omega arith in
-            let front = take count (drop run.at file) in
-            let back = take more (drop count (drop run.at file)) in
-            let parts : own ≡ front ++ back = rw sum (take-add count more (drop run.at file)) in
-            let size : length front ≡ count = length-take-le count (drop run.at file) (omega (arith, is.readable.inside, length-drop run.at file)) in
-            sym (drop-append-le count own (left_from kind file run.past) (omega (arith, long))
-            ∙ ap (λ bytes. bytes ++ left_from kind file run.past) (ap (drop count) parts ∙ drop_at front back count size ∙ ap (take more) (drop-drop count run.at file)));
-      }
-
-  pub after_run : run.past ≤ run.at + count → (next : Run) → Leaves kind file run.past (left_from kind file run.past) next →
-      Leaves kind file (run.at + count) (drop count (left_in kind file run)) next
-  after_run h next l =
-      record {
-        is_run = l.is_run;
-        further = omega (arith, l.further, fits);
-        left_is = l.left_is ∙ sym (drop_at own (left_from kind file run.past) count (omega (arith, long)));
-      }
+-- no entry is left
+pub found_none : {kind : Kind} {entries : List ℕ} {rest : Bor (List ℕ)} → Finding kind entries rest.now → rest.now ≡ [] →
+    Leaves kind (left_from (kind_number kind) entries) (record { kind = kind; bytes = rest; after = rest })
+found_none {kind} {entries} {rest} f none =
+    record {
+      is_run = record { readable = f.readable; at_end = λ e. none };
+      same_kind = refl;
+      left_is = ap (λ bytes. bytes ++ left_from (kind_number kind) rest.now) none ∙ f.same;
+    }
 
 -- the first byte that is left, and that none is
-module _ (kind : ℕ) (file : List ℕ) (run : Run) (is : IsRun file run) where
-  pub first-left : run.at < run.past → left_in kind file run ≡ get_or file run.at 0 ∷ drop 1 (left_in kind file run)
-  first-left h =
-      let more : run.past - run.at ≡ suc (run.past - suc run.at) = omega arith in
-      let first = drop-cons file run.at 0 (omega (arith, h, is.readable.inside)) in
-      rw (more, first) refl
+module _ (run : Run) where
+  pub first-left : 0 < length run.bytes.now → left_in run ≡ get_or run.bytes.now 0 0 ∷ drop 1 (left_in run)
+  first-left h = go run.bytes.now h
+    where
+      go : (bytes : List ℕ) → 0 < length bytes → let all = bytes ++ left_from (kind_number run.kind) run.after.now in all ≡ get_or bytes 0 0 ∷ drop 1 all
+      go [] h = absurd (let z : ⊥ = omega arith in z)
+      go (byte ∷ bytes) h = refl
 
-  pub none_left : run.past ≤ run.at → left_in kind file run ≡ []
-  none_left h =
-      let same : run.at ≡ run.past = omega (arith, is.order, h) in
-      let none : run.past - run.at ≡ 0 = omega arith in
-      rw none (ap (joined_in kind) (none-at-end file run.past (omega (arith, is.at_end same))))
+  pub none_left : IsRun run → run.bytes.now ≡ [] → left_in run ≡ []
+  none_left is e = rw (e, is.at_end e) (ap (joined_in (kind_number run.kind)) no-entries)
 
   -- the run is the front of what is left
-  pub run-shown : take (run.past - run.at) (left_in kind file run) ≡ take (run.past - run.at) (drop run.at file)
-  run-shown = take_at (take (run.past - run.at) (drop run.at file)) (left_from kind file run.past) (run.past - run.at) (run_long file run is)
+  pub run-shown : take (length run.bytes.now) (left_in run) ≡ run.bytes.now
+  run-shown = take_at run.bytes.now (left_from (kind_number run.kind) run.after.now) (length run.bytes.now) refl

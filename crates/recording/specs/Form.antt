@@ -1,9 +1,13 @@
 -- The form of a recording's file (rules, 16.1): a head, the mark BLG and a version, and then entries, each a kind, a length and bytes. What
 -- may be wrong with head and entry (rules, 16.2).
 -- Assumes nothing.
-use Rattle.std.specs.Prelude.{ℕ, ◌+◌, Bool, false, cond, not, ◌&&◌, ◌||◌, List, [], ◌∷◌, eqb, leb, length, get_or, take, drop, Option, Some, None}
+use Rattle.std.specs.Prelude.{ℕ, ◌+◌, Bool, false, cond, not, ◌&&◌, ◌||◌, List, [], ◌∷◌, eqb, leb, length, get_or, take, drop, Option, Some, None, Result, Ok, Err}
 use Rattle.numbers.specs.Number.{number_at, read_at}
 use Rattle.memory.specs.Compare.{is_front}
+use Rattle.recording.specs.declared.form.Fault.{Fault}
+use Rattle.recording.specs.declared.form.Fault.TheVariants.{BadMark, BadVersion, UnknownKind, CutShort}
+use Rattle.recording.specs.declared.form.Kind.{Kind}
+use Rattle.recording.specs.declared.form.Kind.TheVariants.{Host, Device}
 
 -- the numbers given
 abbrev pub bad_mark : ℕ
@@ -17,6 +21,17 @@ unknown_kind = 83
 
 abbrev pub cut_short : ℕ
 cut_short = 84
+
+abbrev pub fault_number : Fault → ℕ
+fault_number BadMark = bad_mark
+fault_number BadVersion = bad_version
+fault_number UnknownKind = unknown_kind
+fault_number CutShort = cut_short
+
+-- 0 where nothing is wrong
+abbrev pub number_of : {T : Type 0} → Result T Fault → ℕ
+number_of (Ok there) = 0
+number_of (Err fault) = fault_number fault
 
 -- the text BLG
 abbrev pub mark : List ℕ
@@ -47,6 +62,14 @@ host_kind = 1
 
 abbrev pub device_kind : ℕ
 device_kind = 2
+
+abbrev pub kind_number : Kind → ℕ
+kind_number Host = host_kind
+kind_number Device = device_kind
+
+-- the kind that a byte says
+abbrev pub kind_of : (number : ℕ) → Result Kind Fault
+kind_of number = cond (eqb number host_kind) (Ok Host) (cond (eqb number device_kind) (Ok Device) (Err UnknownKind))
 
 abbrev pub is_kind : ℕ → Bool
 is_kind kind = eqb kind host_kind || eqb kind device_kind

@@ -1,30 +1,30 @@
--- What is left of the joined bytes of a kind, for a program that goes through the file: a run of bytes in it, and the entries after the run.
+-- What is left of the joined bytes of a kind, for a program that goes through the entries: a run of bytes, and the entries after it.
 -- Assumes nothing.
-use Rattle.std.specs.Prelude.{ℕ, ◌-◌, ◌≤◌, ◌≡◌, List, ◌++◌, length, take, drop}
+use Rattle.std.specs.Prelude.{ℕ, ◌≡◌, List, [], ◌++◌}
+use Rattle.recording.specs.Form.{kind_number}
 use Rattle.recording.specs.Recording.{entries_of, fault_of, joined_in}
+use Rattle.recording.specs.declared.form.Kind.{Kind}
 use Rattle.recording.specs.declared.run.Run.{Run}
 
--- those of the entries from a place on
-abbrev pub left_from : (kind : ℕ) (file : List ℕ) (place : ℕ) → List ℕ
-left_from kind file place = joined_in kind (entries_of (drop place file))
+-- those of these entries
+abbrev pub left_from : (kind : ℕ) (entries : List ℕ) → List ℕ
+left_from kind entries = joined_in kind (entries_of entries)
 
--- those of a run, and of the entries that begin where it ends
-abbrev pub left_in : (kind : ℕ) (file : List ℕ) → Run → List ℕ
-left_in kind file run = take (run.past - run.at) (drop run.at file) ++ left_from kind file run.past
+-- those of a run, and of the entries after it
+abbrev pub left_in : Run → List ℕ
+left_in run = run.bytes.now ++ left_from (kind_number run.kind) run.after.now
 
--- entries can be read from a place on
-pub record Readable (file : List ℕ) (place : ℕ) : Type 0 where
-  pub inside : place ≤ length file
-  pub no_fault : fault_of (entries_of (drop place file)) ≡ 0
+-- these are entries
+pub record Readable (entries : List ℕ) : Type 0 where
+  pub no_fault : fault_of (entries_of entries) ≡ 0
 
--- a run of bytes in the file; an empty one is at the file's end
-pub record IsRun (file : List ℕ) (run : Run) : Type 0 where
-  pub order : run.at ≤ run.past
-  pub readable : Readable file run.past
-  pub at_end : run.at ≡ run.past → run.past ≡ length file
+-- a run; where it is empty, no entries are after it
+pub record IsRun (run : Run) : Type 0 where
+  pub readable : Readable run.after.now
+  pub at_end : run.bytes.now ≡ [] → run.after.now ≡ []
 
--- a run that begins with byte `from` or later, and leaves what is given
-pub record Leaves (kind : ℕ) (file : List ℕ) (from : ℕ) (left : List ℕ) (run : Run) : Type 0 where
-  pub is_run : IsRun file run
-  pub further : from ≤ run.at
-  pub left_is : left_in kind file run ≡ left
+-- a run of this kind, which leaves what is given
+pub record Leaves (kind : Kind) (left : List ℕ) (run : Run) : Type 0 where
+  pub is_run : IsRun run
+  pub same_kind : run.kind ≡ kind
+  pub left_is : left_in run ≡ left

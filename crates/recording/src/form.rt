@@ -1,11 +1,20 @@
 // The form of a recording's file: a head and entries.
-ghost use Rattle.std.specs.Prelude.{◌≡◌, ◌+◌, ◌<◌, ◌≤◌, length, drop};
+ghost use Rattle.std.specs.Prelude.{◌≡◌, ◌+◌, ◌<◌, ◌≤◌, length, drop, IfOk};
 ghost use Rattle.memory.specs.Compare.{is_front};
-ghost use Rattle.recording.specs.Form.{mark, head_fault, is_kind, size_in, entry_head, entry_fault};
+ghost use Rattle.recording.specs.Form.{mark, head_length, head_fault, kind_number, kind_of, size_in, entry_head, past_entry, entry_fault, fault_number, number_of};
 ghost use Rattle.recording.specs.Recording.{recording_of, fault_of};
 
 use memory::compare::is_front;
-use numbers::{number16_at, read16};
+use numbers::{number_at, read_at};
+
+// What is wrong with a file.
+#[derive(Clone, Copy, Debug, PartialEq, Eq)]
+pub enum Fault {
+    BadMark,
+    BadVersion,
+    UnknownKind,
+    CutShort,
+}
 
 // The numbers given for what is wrong with a file.
 const BAD_MARK: u32 = 81;
@@ -16,10 +25,55 @@ const UNKNOWN_KIND: u32 = 83;
 
 const CUT_SHORT: u32 = 84;
 
-// The kinds of entries: bytes of the host, bytes of the device.
-pub const HOST: u8 = 1;
+impl From<Fault> for u32 {
+    ghost from_gives = { λ fault number. number ≡ fault_number fault };
 
-pub const DEVICE: u8 = 2;
+    fn from(fault: Fault) -> u32 {
+        match fault {
+            Fault::BadMark => BAD_MARK,
+            Fault::BadVersion => BAD_VERSION,
+            Fault::UnknownKind => UNKNOWN_KIND,
+            Fault::CutShort => CUT_SHORT,
+        }
+    }
+}
+
+// The kinds of entries: bytes of the host, bytes of the device.
+#[derive(Clone, Copy, Debug, PartialEq, Eq)]
+pub enum Kind {
+    Host,
+    Device,
+}
+
+// The bytes that say a kind.
+const HOST: u8 = 1;
+
+const DEVICE: u8 = 2;
+
+impl From<Kind> for u8 {
+    ghost from_gives = { λ kind number. number ≡ kind_number kind };
+
+    fn from(kind: Kind) -> u8 {
+        match kind {
+            Kind::Host => HOST,
+            Kind::Device => DEVICE,
+        }
+    }
+}
+
+impl TryFrom<u8> for Kind {
+    type Error = Fault;
+
+    ghost try_from_gives = { λ number found. found ≡ kind_of number };
+
+    fn try_from(number: u8) -> Result<Kind, Fault> {
+        match number {
+            HOST => Ok(Kind::Host),
+            DEVICE => Ok(Kind::Device),
+            _ => Err(Fault::UnknownKind),
+        }
+    }
+}
 
 // The text BLG, and the version after it.
 const MARK: [u8; 3] = [0x42, 0x4C, 0x47];
@@ -32,83 +86,51 @@ pub const HEAD: usize = 5;
 // How many bytes an entry has before its own.
 pub const ENTRY_HEAD: usize = 3;
 
-fn has_mark(file: &[u8]) -> bool
-    ensures { result ≡ is_front mark file.now }
+// What follows the head.
+fn past_head<'a>(file: &'a [u8]) -> Result<&'a [u8], Fault>
+    ensures fault { number_of result ≡ head_fault file.now }
+    ensures past { IfOk result (λ rest. rest.now ≡ drop head_length file.now) }
 {
-    if file.len() < MARK.len() {
-        return false;
+    if !is_front(&MARK, file) {
+        return Err(Fault::BadMark);
     }
-    is_front(&MARK, file)
+    if read_at::<2>(file, MARK.len()) != Some(VERSION) {
+        return Err(Fault::BadVersion);
+    }
+    Ok(&file[HEAD..])
 }
 
-// What is wrong with the head; 0 where nothing is.
-fn head_fault(file: &[u8]) -> u32
-    ensures { result ≡ head_fault file.now }
+// How many bytes of its own the entry has that these bytes begin with.
+#[tactic(auto, unfolding(crate::specs::Form::size_in))]
+pub fn size_in(bytes: &[u8]) -> usize
+    requires { entry_head ≤ length bytes.now }
+    ensures { result ≡ size_in bytes.now }
 {
-    if !has_mark(file) {
-        return BAD_MARK;
-    }
-    match read16(file, MARK.len()) {
-        Some(version) => {
-            if version == VERSION {
-                return 0;
-            }
-            BAD_VERSION
-        }
-        None => BAD_VERSION,
-    }
+    number_at::<2>(bytes, 1) as usize
 }
 
-fn is_kind(kind: u8) -> bool
-    ensures { result ≡ is_kind kind }
+// What follows the entry that these bytes begin with.
+fn past_entry<'a>(bytes: &'a [u8]) -> Result<&'a [u8], Fault>
+    requires { 0 < length bytes.now }
+    ensures fault { number_of result ≡ entry_fault bytes.now }
+    ensures past { IfOk result (λ rest. rest.now ≡ past_entry bytes.now) }
 {
-    if kind == HOST {
-        return true;
+    Kind::try_from(bytes[0])?;
+    if bytes.len() < ENTRY_HEAD {
+        return Err(Fault::CutShort);
     }
-    kind == DEVICE
+    bytes[ENTRY_HEAD..]
+        .get(size_in(bytes)..)
+        .ok_or(Fault::CutShort)
 }
 
-// The length of the entry that begins at a place.
-pub fn size_at(file: &[u8], place: usize) -> usize
-    requires { place + entry_head ≤ length file.now }
-    ensures { result ≡ size_in (drop place file.now) }
+// What is wrong first in a file.
+pub fn check(file: &[u8]) -> Result<(), Fault>
+    ensures { number_of result ≡ fault_of (recording_of file.now) }
 {
-    number16_at(file, place + 1) as usize
-}
-
-// What is wrong with the entry that begins at a place; 0 where nothing is.
-fn entry_fault(file: &[u8], place: usize) -> u32
-    requires { place < length file.now }
-    ensures { result ≡ entry_fault (drop place file.now) }
-{
-    if !is_kind(file[place]) {
-        return UNKNOWN_KIND;
+    let mut rest = past_head(file)?;
+    while !rest.is_empty() {
+        rest = past_entry(rest)?;
     }
-    let there = file.len() - place;
-    if there < ENTRY_HEAD {
-        return CUT_SHORT;
-    }
-    if there - ENTRY_HEAD < size_at(file, place) {
-        return CUT_SHORT;
-    }
-    0
-}
-
-// The number of what is wrong first in a file; 0 where nothing is.
-pub fn fault_of(file: &[u8]) -> u32
-    ensures { result ≡ fault_of (recording_of file.now) }
-{
-    let fault = head_fault(file);
-    if fault != 0 {
-        return fault;
-    }
-    let mut place = HEAD;
-    while place < file.len() {
-        let fault = entry_fault(file, place);
-        if fault != 0 {
-            return fault;
-        }
-        place = place + ENTRY_HEAD + size_at(file, place);
-    }
-    0
+    Ok(())
 }

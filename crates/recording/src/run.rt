@@ -1,50 +1,49 @@
-// The way through a file along the bytes of one kind: a run is an entry's bytes, or what is left of them.
-ghost use Rattle.std.specs.Prelude.{◌≡◌, ◌+◌, ◌≤◌, drop};
+// The way through a file along the bytes of one kind.
+ghost use Rattle.std.specs.Prelude.{◌≤◌, length, drop};
+ghost use Rattle.recording.specs.Form.{kind_number};
 ghost use Rattle.recording.specs.Left.{left_from, left_in, Readable, IsRun, Leaves};
 
-use crate::form::{ENTRY_HEAD, size_at};
+use crate::form::{ENTRY_HEAD, Kind, size_in};
 
-// The bytes of a file from `at` on, up to `past`. There the next entry begins, or the file ends.
+// An entry's bytes, or what is left of them, and the entries after it. It has no bytes only where no entries are after it.
 #[derive(Clone, Copy)]
-pub struct Run {
-    pub at: usize,
-    pub past: usize,
+pub struct Run<'a> {
+    pub kind: Kind,
+    pub bytes: &'a [u8],
+    pub after: &'a [u8],
 }
 
-// The bytes of the first entry of a kind that has any, from the entry at a place on; at the file's end where there is none.
-pub fn find(file: &[u8], kind: u8, from: usize) -> Run
-    requires { Readable file.now from }
-    ensures { Leaves kind file.now from (left_from kind file.now from) result }
-{
-    let mut entry = from;
-    while entry < file.len() {
-        let at = entry + ENTRY_HEAD;
-        let past = at + size_at(file, entry);
-        if file[entry] == kind {
-            if at < past {
-                return Run { at: at, past: past };
+impl<'a> Run<'a> {
+    // The first one of a kind among these entries.
+    pub fn first(kind: Kind, entries: &'a [u8]) -> Run<'a>
+        requires { Readable entries.now }
+        ensures { Leaves kind (left_from (kind_number kind) entries.now) result }
+    {
+        let mut rest = entries;
+        while !rest.is_empty() {
+            let (bytes, after) = rest[ENTRY_HEAD..].split_at(size_in(rest));
+            if rest[0] == u8::from(kind) && !bytes.is_empty() {
+                return Run { kind, bytes, after };
             }
+            rest = after;
         }
-        entry = past;
+        Run {
+            kind,
+            bytes: rest,
+            after: rest,
+        }
     }
-    Run {
-        at: file.len(),
-        past: file.len(),
-    }
-}
 
-// The run past its first `count` bytes; where that is its end, the next of its kind.
-pub fn go_on(file: &[u8], kind: u8, run: Run, count: usize) -> Run
-    requires run { IsRun file.now run }
-    requires count_bound { run.at + count ≤ run.past }
-    ensures { Leaves kind file.now (run.at + count) (drop count (left_in kind file.now run)) result }
-{
-    let at = run.at + count;
-    if at < run.past {
-        return Run {
-            at: at,
-            past: run.past,
-        };
+    // What is left past the first `count` bytes.
+    pub fn past(self, count: usize) -> Run<'a>
+        requires run { IsRun self }
+        requires count_bound { count ≤ length self.bytes.now }
+        ensures { Leaves self.entry.kind (drop count (left_in self.entry)) result }
+    {
+        let bytes = &self.bytes[count..];
+        if bytes.is_empty() {
+            return Run::first(self.kind, self.after);
+        }
+        Run { bytes, ..self }
     }
-    find(file, kind, run.past)
 }

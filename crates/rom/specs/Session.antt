@@ -1,9 +1,13 @@
 -- The receiver's session: a call on a record, input, reply and RAM. It is refused with 2 or 4 (rules, 2.1).
 -- Assumes nothing.
+use Rattle.std.specs.Prelude as std
 use Rattle.std.specs.Prelude.{ℕ, cond, List, length, Option, Some, None}
 use Rattle.wire.specs.Length.{is_ram_length, bad_ram}
 use Rattle.machine.specs.Session.{Read, sound, unsound, Session, Result}
-use Rattle.machine.specs.declared.Report.{Report}
+use Rattle.machine.specs.Told.{refusal_number, told}
+use Rattle.machine.specs.declared.Record.{Record}
+use Rattle.machine.specs.declared.Accepted.{Accepted}
+use Rattle.machine.specs.declared.refusal.Refusal.{Refusal}
 use Rattle.rom_flow.specs.State.{State, state}
 use Rattle.rom_flow.specs.Receiver.{receiver}
 use Rattle.rom_record.specs.Record.{written, decoded_of}
@@ -24,6 +28,6 @@ rom =
       memories = λ s. s.ram;
     }
 
--- what a call gives back, with the reply and the RAM after it
-abbrev pub given_back : Report → (reply ram : List ℕ) → Result (List ℕ)
-given_back report reply ram = record { report = report; reply = reply; memories = ram }
+-- what a call on a record gives back, with the reply and the RAM after it
+abbrev pub given_back : Record → std.Result Accepted Refusal → (reply ram : List ℕ) → Result (List ℕ)
+given_back session outcome reply ram = record { report = told refusal_number session outcome; reply = reply; memories = ram }

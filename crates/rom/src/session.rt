@@ -8,14 +8,15 @@ ghost use Rattle.rom.specs.Session.{rom, given_back};
 ghost use Rattle.rom_flow.specs.Sound.{Ready};
 
 use machine::ask::Ask;
+use machine::refusal::Refusal;
 use machine::stop::{Place, Standing, Stop};
-use machine::{BAD_RECORD, Record, Report, refused};
+use machine::{Accepted, Record};
 use rom_flow::ask::ask_of;
 use rom_flow::kind::Kind;
 use rom_flow::step::Step;
 use rom_record::{decode, encode};
 use rom_turn::{send, take};
-use wire::length::{BAD_RAM, is_ram_length};
+use wire::length::is_ram_length;
 
 // Acts until a byte or room is missing, or code runs.
 // One loop per session: in a trait the memories would be `&mut` fields, and its clauses on their names are longer than the loop.
@@ -55,18 +56,21 @@ fn act(
 }
 
 // A call to the session.
-pub fn call(session: Record, input: &[u8], reply: &mut [u8], ram: &mut [u8]) -> Report
-    ensures { given_back result reply.new ram.new ≡ result_of rom session ram.old input.now reply.old }
+pub fn call(
+    session: Record,
+    input: &[u8],
+    reply: &mut [u8],
+    ram: &mut [u8],
+) -> Result<Accepted, Refusal>
+    ensures { given_back session result reply.new ram.new ≡ result_of rom session ram.old input.now reply.old }
 {
     let size = ram.len();
     if !is_ram_length(size) {
-        return refused(BAD_RAM, session);
+        return Err(Refusal::RamLength);
     }
-    match decode(size as u32, session) {
-        Some((kind, step)) => {
-            let end = act(kind, step, session.reason, input, reply, ram);
-            end.report(encode(kind, end.at.step, end.at.reason))
-        }
-        None => refused(BAD_RECORD, session),
-    }
+    let Some((kind, step)) = decode(size as u32, session) else {
+        return Err(Refusal::Record);
+    };
+    let end = act(kind, step, session.reason, input, reply, ram);
+    Ok(end.accepted(encode(kind, end.at.step, end.at.reason)))
 }

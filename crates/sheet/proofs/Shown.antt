@@ -12,21 +12,21 @@ use Rattle.wire.specs.Range.{lies_in}
 use Rattle.image.specs.Header.{size_at, header_length, code_at}
 use Rattle.image.specs.Valid.{is_valid, image_at}
 use Rattle.image.proofs.Images.{valid-inside}
-use Rattle.sheet.specs.declared.Placed.{Placed}
-use Rattle.sheet.specs.Sheet.{place_of, code_place, lies_from, Shows}
+use Rattle.sheet.specs.declared.Code.{Code}
+use Rattle.sheet.specs.Sheet.{place_of, code_in, code_place, lies_from, Shows}
 
 -- where the code of a valid file lies
 module _ (file : List ℕ) (valid : is_valid file 0 ≡ true) where
-  placed-is : place_of file ≡ record { number = 0; place = header_length; size = size_at file 0 }
+  placed-is : code_in file ≡ record { place = header_length; size = size_at file 0 }
   unfolding place_of image_at
   placed-is = simp valid
 
   place_is : code_place file ≡ header_length
   unfolding code_place
-  place_is = ap (λ (x : Placed). x.place) placed-is
+  place_is = ap (λ (x : Code). x.place) placed-is
 
-  size_is : (place_of file).size ≡ size_at file 0
-  size_is = ap (λ (x : Placed). x.size) placed-is
+  size_is : (code_in file).size ≡ size_at file 0
+  size_is = ap (λ (x : Code). x.size) placed-is
 
   lies : lies_from file header_length ≡ true
   unfolding lies_from lies_in
@@ -42,6 +42,6 @@ module _ (file part : Bor (List ℕ)) where
   unfolding place_of image_at
   sheet-shows-nothing place invalid shows = rw (none (lies_from file.now place)) at shows.bytes
     where
-      none : (t : Bool) → cond t (place_of file.now).size 0 ≡ 0
+      none : (t : Bool) → cond t (code_in file.now).size 0 ≡ 0
       none true = simp invalid
       none false = refl

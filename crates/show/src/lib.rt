@@ -20,15 +20,10 @@ pub fn hex(rt: &impl Print, number: u64, width: usize) -> io::Result<()> {
     print!(rt; "{number:0width$x}")
 }
 
-fn byte(rt: &impl Print, value: u8) -> io::Result<()> {
-    text(rt, b" ")?;
-    hex(rt, value as u64, 2)
-}
-
 // Bytes in hexadecimal, a blank before each.
 pub fn bytes(rt: &impl Print, bytes: &[u8]) -> io::Result<()> {
-    for i in 0..bytes.len() {
-        byte(rt, bytes[i])?;
+    for byte in bytes {
+        print!(rt; " {byte:02x}")?;
     }
     Ok(())
 }

@@ -1,3 +1,4 @@
+pub mod Headers
 pub mod Ids
 pub mod Fakes
 pub mod Refusal

@@ -1,8 +1,8 @@
 -- A slot is refused exactly if neither image is valid.
 -- Assumes nothing.
 use Rattle.std.proofs.Common.{◌≡◌, ℕ, Bool, true, false, cond, ◌↔◌, List, refl, arith}
+use Rattle.std.specs.Prelude.{Option, Some, None}
 use Rattle.image.specs.declared.Image.{Image}
-use Rattle.image.specs.declared.Image.TheVariants.{Valid, Invalid}
 use Rattle.image.specs.Header.{id_at, size_at}
 use Rattle.image.specs.Valid.{is_valid, image_at}
 use Rattle.slot.specs.Id.{is_newer}
@@ -11,8 +11,8 @@ use Rattle.slot.specs.Slot.{chosen, no_image, refused, select_of}
 use Rattle.slot.specs.Refusal.{RefusedExactly}
 
 -- an image by whether it is valid
-abbrev image : Bool → (id size : ℕ) → Image
-image valid id size = cond valid (Valid id size) Invalid
+abbrev image : Bool → (id size : ℕ) → Option Image
+image valid id size = cond valid (Some (record { id = id; size = size })) None
 
 slot-zero : (t : Bool) → cond {A = ℕ} t 2 1 ≡ 0 → ⊥
 slot-zero true e = omega (arith, e)

@@ -1,12 +1,13 @@
 -- What a product header says (rules, 10.1), or its refusal with 3, 51 or 52 (rules, 2.3).
 -- Assumes nothing.
-use Rattle.std.specs.Prelude.{ℕ, ◌+◌, Bool, cond, not, List, length}
+use Rattle.std.specs.Prelude.{ℕ, ◌+◌, Bool, Result, Ok, Err, cond, not, List, length}
 use Rattle.numbers.specs.Number.{number_at}
 use Rattle.wire.specs.Range.{lies_in}
 use Rattle.wire.specs.Length.{is_flash_length, bad_flash}
 use Rattle.image.specs.Header.{is_marked}
 use Rattle.slot.specs.declared.product.Product.{Product}
-use Rattle.slot.specs.declared.product.Product.TheVariants.{Images, Refused}
+use Rattle.slot.specs.declared.refused.Refusal.{Refusal}
+use Rattle.slot.specs.declared.refused.Refusal.TheVariants.{BadFlash, NoHeader, WrongMark}
 
 -- the numbers given for a product header that doesn't lie wholly in the flash, and for a wrong mark
 abbrev pub no_header : ℕ
@@ -31,10 +32,10 @@ first_offset flash offset = number_at 4 flash (offset + 4)
 abbrev pub second_offset : (flash : List ℕ) (offset : ℕ) → ℕ
 second_offset flash offset = number_at 4 flash (offset + 8)
 
--- the flash offsets of the two images, or the number of the first test that fails
-unfoldable pub product_at : (flash : List ℕ) (offset : ℕ) → Product
+-- the flash offsets of the two images, or the first test that fails
+unfoldable pub product_at : (flash : List ℕ) (offset : ℕ) → Result Product Refusal
 product_at flash offset =
-    cond (not (is_flash_length (length flash))) (Refused bad_flash)
-    (cond (not (product_inside flash offset)) (Refused no_header)
-    (cond (not (product_marked flash offset)) (Refused wrong_mark)
-    (Images (first_offset flash offset) (second_offset flash offset))))
+    cond (not (is_flash_length (length flash))) (Err BadFlash)
+    (cond (not (product_inside flash offset)) (Err NoHeader)
+    (cond (not (product_marked flash offset)) (Err WrongMark)
+    (Ok (record { first = first_offset flash offset; second = second_offset flash offset }))))

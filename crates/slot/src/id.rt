@@ -2,13 +2,11 @@
 ghost use Rattle.std.specs.Prelude.{◌≡◌};
 ghost use Rattle.slot.specs.Id.{next_id, follows, is_newer};
 
-use std::num::wrapping_add_u8;
-
 // The id that follows another.
 pub fn next_id(id: u8) -> u8
     ensures { result ≡ next_id id }
 {
-    wrapping_add_u8(id, 1)
+    id.wrapping_add(1)
 }
 
 // Whether an id is the one that follows another.
@@ -19,6 +17,7 @@ fn follows(id: u8, other: u8) -> bool
 }
 
 // Whether an id is newer than another.
+#[tactic(auto, unfolding(crate::specs::Id::is_newer))]
 pub fn is_newer(id: u8, than: u8) -> bool
     ensures { result ≡ is_newer id than }
 {

@@ -3,80 +3,65 @@
 
 pub mod id;
 pub mod product;
+pub mod refused;
 
-ghost use Rattle.std.specs.Prelude.{◌≡◌, if◌then◌else◌};
-ghost use Rattle.slot.specs.Id.{is_newer};
-ghost use Rattle.slot.specs.Slot.{refused, starts, chosen, select_of};
+ghost use Rattle.std.specs.Prelude.{◌≡◌};
+ghost use Rattle.slot.specs.Slot.{selected, chosen, select_of};
 
 use crate::id::is_newer;
-use crate::product::{Product, product_at};
+use crate::product::product_at;
+use crate::refused::Refusal;
 use image::{Image, image_at};
-
-// The number given where neither image is valid.
-pub const NO_IMAGE: u32 = 53;
 
 // The number 0 and slot 1 or 2, or a refusal's number and slot 0.
 #[repr(C)]
-#[derive(Clone, Copy)]
+#[derive(Clone, Copy, Debug, PartialEq, Eq)]
 pub struct Selected {
     pub number: u32,
     pub slot: u32,
 }
 
-fn refused(number: u32) -> Selected
-    ensures { result ≡ refused number }
-{
-    Selected {
-        number: number,
-        slot: 0,
+impl From<Result<u32, Refusal>> for Selected {
+    ghost from_gives = { λ slot result. result ≡ selected slot };
+
+    fn from(slot: Result<u32, Refusal>) -> Selected {
+        match slot {
+            Ok(slot) => Selected { number: 0, slot },
+            Err(refusal) => Selected {
+                number: u32::from(refusal),
+                slot: 0,
+            },
+        }
     }
 }
 
-fn starts(slot: u32) -> Selected
-    ensures { result ≡ starts slot }
+// Of two images, the slot that starts: that of the newer id, or slot 1.
+fn choose(first: Option<Image>, second: Option<Image>) -> Result<u32, Refusal>
+    ensures { selected result ≡ chosen first second }
 {
-    Selected {
-        number: 0,
-        slot: slot,
+    match (first, second) {
+        (Some(first), Some(second)) if is_newer(second.id, first.id) => Ok(2),
+        (Some(_), _) => Ok(1),
+        (None, Some(_)) => Ok(2),
+        (None, None) => Err(Refusal::NoImage),
     }
 }
 
-// The slot of the newer id, or slot 1.
-fn slot_of(first: u8, second: u8) -> Selected
-    ensures { result ≡ starts (if is_newer second first then 2 else 1) }
+// The slot that starts, by the product header at an offset of the flash.
+#[tactic(auto, unfolding(crate::specs::Slot::select_of))]
+fn slot_at(flash: &[u8], offset: u32) -> Result<u32, Refusal>
+    ensures { selected result ≡ select_of flash.now offset }
 {
-    if is_newer(second, first) {
-        starts(2)
-    } else {
-        starts(1)
-    }
+    let product = product_at(flash, offset)?;
+    choose(
+        image_at(flash, product.first as usize),
+        image_at(flash, product.second as usize),
+    )
 }
 
-// Of two images, the slot that starts.
-fn choose(first: Image, second: Image) -> Selected
-    ensures { result ≡ chosen first second }
-{
-    match first {
-        Image::Valid(id, _) => match second {
-            Image::Valid(other, _) => slot_of(id, other),
-            Image::Invalid => starts(1),
-        },
-        Image::Invalid => match second {
-            Image::Valid(_, _) => starts(2),
-            Image::Invalid => refused(NO_IMAGE),
-        },
-    }
-}
-
-// The slot that will start, by the product header at an offset of the flash.
+// That slot by value, or a refusal's number, as C takes it.
 pub fn select(flash: &[u8], offset: u32) -> Selected
     ensures { result ≡ select_of flash.now offset }
 {
-    match product_at(flash, offset) {
-        Product::Refused(number) => refused(number),
-        Product::Images(first, second) => choose(
-            image_at(flash, first as usize),
-            image_at(flash, second as usize),
-        ),
-    }
+    Selected::from(slot_at(flash, offset))
 }

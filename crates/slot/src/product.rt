@@ -2,9 +2,10 @@
 ghost use Rattle.std.specs.Prelude.{◌≡◌};
 ghost use Rattle.slot.specs.Product.{product_at};
 
+use crate::refused::Refusal;
 use image::is_marked;
-use numbers::number32_at;
-use wire::length::{BAD_FLASH, is_flash_length};
+use numbers::number_at;
+use wire::length::is_flash_length;
 use wire::unit::FlashOffset;
 
 // How many bytes the product header has.
@@ -13,34 +14,28 @@ pub const PRODUCT: usize = 12;
 // The mark of a product header is 70 and this byte.
 pub const PRODUCT_MARK: u8 = 0x52;
 
-// The number given where the product header does not lie wholly in the flash.
-pub const NO_HEADER: u32 = 51;
-
-// The number given where its mark is wrong.
-pub const WRONG_MARK: u32 = 52;
-
-// What is at an offset of a flash.
-#[derive(Clone, Copy)]
-pub enum Product {
-    // A product header: the flash offsets of image 1 and of image 2.
-    Images(u32, u32),
-    // No product header; the number given.
-    Refused(u32),
+// A product header: the flash offsets of image 1 and of image 2.
+#[derive(Clone, Copy, Debug, PartialEq, Eq)]
+pub struct Product {
+    pub first: u32,
+    pub second: u32,
 }
 
 // The product header at an offset of the flash.
-pub fn product_at(flash: &[u8], offset: u32) -> Product
+#[tactic(auto, using(crate::proofs::Headers::headers), unfolding(crate::specs::Product::product_at, crate::specs::Product::product_marked))]
+pub fn product_at(flash: &[u8], offset: u32) -> Result<Product, Refusal>
     ensures { result ≡ product_at flash.now offset }
 {
     if !is_flash_length(flash.len()) {
-        return Product::Refused(BAD_FLASH);
+        return Err(Refusal::BadFlash);
     }
-    let Some(_) = FlashOffset(offset).place(PRODUCT, flash.len()) else {
-        return Product::Refused(NO_HEADER);
-    };
-    let start = offset as usize;
+    let start = FlashOffset(offset)
+        .place(PRODUCT, flash.len())
+        .ok_or(Refusal::NoHeader)?;
     if !is_marked(flash, start, PRODUCT_MARK) {
-        return Product::Refused(WRONG_MARK);
+        return Err(Refusal::WrongMark);
     }
-    Product::Images(number32_at(flash, start + 4), number32_at(flash, start + 8))
+    let first = number_at::<4>(flash, start + 4);
+    let second = number_at::<4>(flash, start + 8);
+    Ok(Product { first, second })
 }

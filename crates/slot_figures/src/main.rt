@@ -11,7 +11,7 @@ mod store;
 mod text;
 mod versions;
 
-use crate::row::{line_end, replace_marks};
+use crate::row::replace_marks;
 use show::{read_full, text};
 use std::io;
 
@@ -19,14 +19,12 @@ use std::io;
 const ROOM: usize = 65_536;
 
 fn show_answer(rt: &impl Print, room: &mut [u8], row: &[u8]) -> io::Result<()> {
-    if row.len() == 0 {
-        return Ok(());
-    }
-    match row[0] {
-        b'v' => versions::show_rank(rt, row),
-        b'c' => versions::show_order(rt, row),
-        b'f' => slots::show(rt, room, row),
-        b'o' => offers::show(rt, row),
+    match row {
+        [] => Ok(()),
+        [b'v', ..] => versions::show_rank(rt, row),
+        [b'c', ..] => versions::show_order(rt, row),
+        [b'f', ..] => slots::show(rt, room, row),
+        [b'o', ..] => offers::show(rt, row),
         _ => sheets::show(rt, row),
     }
 }
@@ -38,12 +36,12 @@ fn show_row(rt: &impl Print, room: &mut [u8], row: &mut [u8]) -> io::Result<()> 
     text(rt, b"\n")
 }
 
+// A row's last byte is the line's end.
 fn show_rows(rt: &impl Print, room: &mut [u8], rows: &mut [u8]) -> io::Result<()> {
-    let mut start = 0;
-    while start < rows.len() {
-        let end = line_end(rows, start);
-        show_row(rt, room, &mut rows[start..end - 1])?;
-        start = end;
+    for line in rows.split_inclusive_mut(|byte| *byte == b'\n') {
+        if let Some((_, row)) = line.split_last_mut() {
+            show_row(rt, room, row)?;
+        }
     }
     Ok(())
 }

@@ -8,11 +8,12 @@ use std::io;
 
 fn show_file(rt: &impl Print, file: &[u8], place: usize) -> io::Result<()> {
     let placed = place_of(file);
+    let code = placed.unwrap_or_default();
     answer(
         rt,
-        placed.number,
+        placed.map_or_else(u32::from, |_| 0),
         b", place and size",
-        &[placed.place as u64, placed.size as u64],
+        &[code.place as u64, code.size as u64],
     )?;
     text(rt, b"; code")?;
     bytes(rt, code_of(file))?;

@@ -4,36 +4,21 @@ use crate::text::answer;
 use show::text;
 use std::io;
 use version::order::order;
-use version::rank::rank;
+use version::rank::{Ranked, rank};
 
 // The row is: version FIELD, of any length.
 pub fn show_rank(rt: &impl Print, row: &[u8]) -> io::Result<()> {
-    let ranked = rank(part(row, 8, row.len()));
-    let rank = ranked.rank;
-    answer(
-        rt,
-        ranked.number,
-        b", rank",
-        &[
-            rank[0] as u64,
-            rank[1] as u64,
-            rank[2] as u64,
-            rank[3] as u64,
-        ],
-    )
+    let Ranked { number, rank } = rank(part(row, 8, row.len()));
+    answer(rt, number, b", rank", &rank.map(u64::from))
 }
 
 fn sign(rt: &impl Print, order: i32) -> io::Result<()> {
-    if order == -1 {
-        return text(rt, b", order -1");
+    match order {
+        -1 => text(rt, b", order -1"),
+        0 => text(rt, b", order 0"),
+        1 => text(rt, b", order 1"),
+        _ => Ok(()),
     }
-    if order == 0 {
-        return text(rt, b", order 0");
-    }
-    if order == 1 {
-        text(rt, b", order 1")?;
-    }
-    Ok(())
 }
 
 // The row is: compare FIELD FIELD, of 16 bytes each.

@@ -11,7 +11,7 @@ use Rattle.memory.specs.Store.{laid}
 use Rattle.version.specs.Text.{field_length}
 use Rattle.tray.specs.Tray.{field_count, entry_of, entries_of, refusal_of, tray_of}
 use Rattle.tray.specs.Entry.{entry_length, field_at, entry_at, EachAsAlone}
-use Rattle.tray.proofs.Entries.{first_entries, entry-length, entries-length}
+use Rattle.tray.proofs.Entries.{first_entries, entry-length, entries_length}
 
 entry-at : (place count : ℕ) (bytes rest : List ℕ) → place < count → entry_at place (first_entries count bytes ++ rest) ≡ entry_of (field_at place bytes)
 entry-at place zero bytes rest h = absurd (omega arith)
@@ -39,5 +39,5 @@ pub each-as-alone : EachAsAlone
 each-as-alone bytes ranks e =
     record {
       entry_is = λ place h. rw (accepted bytes ranks e) (entry_kept bytes (drop (length (entries_of bytes)) ranks) place h);
-      rest_stays = rw (accepted bytes ranks e, ← entries-length bytes) (drop-append_seam (entries_of bytes) (drop (length (entries_of bytes)) ranks));
+      rest_stays = rw (accepted bytes ranks e, ← entries_length bytes) (drop-append_seam (entries_of bytes) (drop (length (entries_of bytes)) ranks));
     }

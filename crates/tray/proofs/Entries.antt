@@ -1,12 +1,13 @@
 -- The entries of a tray: how long they are, and one more.
 -- Assumes nothing.
-use Prim.Native.Nat.{ℕ, zero, suc, ◌+◌, ◌-◌, ◌*◌, ◌≤◌}
-use mathlib.Core.Path.{◌≡◌, refl, sym}
+use Prim.Native.Nat.{ℕ, zero, suc, ◌+◌, ◌-◌, ◌*◌, ◌<◌, ◌≤◌}
+use mathlib.Core.Path.{◌≡◌, refl, sym, ◌∙◌}
 use mathlib.Core.List.{List, ◌++◌, map, append_assoc, append-nil}
 use native.Mathlib.Omega.{arith}
-use lib.ListN.{length, take, drop, length-append}
+use lib.ListN.{length, get_or, take, drop, length-append}
 use lib.Seq.{drop-drop}
 use borrow.Rule.Slice.PartMut.{mid_of, put_mid}
+use Rattle.std.specs.Simd.{first_chunks}
 use Rattle.memory.specs.Store.{laid}
 use Rattle.memory.proofs.Stores.{laid-behind}
 use Rattle.version.specs.Text.{field_length}
@@ -37,9 +38,17 @@ first_more (suc count) bytes =
     let place : field_length + count * field_length ≡ suc count * field_length = omega arith in
     rw (first_more count (drop field_length bytes), drop-drop, place, append_assoc)
 
-pub entries-length : (bytes : List ℕ) → length (entries_of bytes) ≡ field_count bytes * entry_length
+-- the fields, as the code goes over them
+pub chunk-at : (place count : ℕ) (bytes d : List ℕ) → place < count → get_or (first_chunks field_length count bytes) place d ≡ field_at place bytes
+chunk-at place zero bytes d h = absurd (omega arith)
+chunk-at zero (suc count) bytes d h = refl
+chunk-at (suc place) (suc count) bytes d h =
+    let from : field_length + place * field_length ≡ suc place * field_length = omega arith in
+    chunk-at place count (drop field_length bytes) d (omega arith) ∙ rw (drop-drop, from)
+
+pub entries_length : (bytes : List ℕ) → length (entries_of bytes) ≡ field_count bytes * entry_length
 unfolding entries_of
-entries-length bytes = first-length (field_count bytes) bytes
+entries_length bytes = first-length (field_count bytes) bytes
 
 -- one entry more, laid into the room after those before it
 module _ (count : ℕ) (bytes room before part : List ℕ) where

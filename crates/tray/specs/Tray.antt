@@ -1,9 +1,11 @@
 -- A tray of version fields, ranked in one call (rules, 8.4), and when it is refused (rules, 2.3).
 -- Assumes nothing.
-use Rattle.std.specs.Prelude.{ℕ, zero, suc, ◌/◌, ◌%◌, List, [], ◌∷◌, ◌++◌, map, Bool, cond, not, ◌&&◌, eqb, leb, ltb, length, take, drop}
+use Rattle.std.specs.Prelude.{ℕ, zero, suc, ◌/◌, ◌%◌, List, [], ◌∷◌, ◌++◌, map, Bool, cond, not, ◌&&◌, eqb, leb, ltb, length, take, drop, Result, Ok, Err}
 use Rattle.memory.specs.Store.{laid}
 use Rattle.version.specs.Text.{field_length}
 use Rattle.version.specs.Rank.{rank_of}
+use Rattle.tray.specs.declared.TrayRefusal.{TrayRefusal}
+use Rattle.tray.specs.declared.TrayRefusal.TheVariants.{BadTray, ShortRanks}
 
 -- how many fields a list has
 abbrev pub field_count : (bytes : List ℕ) → ℕ
@@ -40,6 +42,15 @@ bad_tray = 64
 
 abbrev pub short_ranks : ℕ
 short_ranks = 65
+
+-- the number of each refusal, and 0 for none
+abbrev pub refusal_number : TrayRefusal → ℕ
+refusal_number BadTray = bad_tray
+refusal_number ShortRanks = short_ranks
+
+abbrev pub number_of : Result (Unit {0}) TrayRefusal → ℕ
+number_of (Ok done) = 0
+number_of (Err refusal) = refusal_number refusal
 
 -- what is given back, and the room afterwards
 pub record Tray : Type 0 where

@@ -4,7 +4,7 @@
 ghost use Rattle.std.specs.Prelude.{◌≡◌, ◌<◌, ◌≤◌, ◌++◌, ◌∷◌, [], length};
 ghost use Rattle.memory.specs.Store.{laid};
 ghost use Rattle.version.specs.Rank.{rank_length};
-ghost use Rattle.tray.specs.Tray.{entries_of, is_tray, tray, tray_of};
+ghost use Rattle.tray.specs.Tray.{entries_of, is_tray, refusal_number, number_of, tray, tray_of};
 
 use version::rank::{FIELD, NUMBERS, Ranked, rank};
 
@@ -20,14 +20,29 @@ pub const BAD_TRAY: u32 = 64;
 // The number given where the room is shorter than the entries.
 pub const SHORT_RANKS: u32 = 65;
 
+// Why a tray is refused.
+#[derive(Clone, Copy, Debug, PartialEq, Eq)]
+pub enum TrayRefusal {
+    BadTray,
+    ShortRanks,
+}
+
+impl From<TrayRefusal> for u32 {
+    ghost from_gives = { λ refusal number. number ≡ refusal_number refusal };
+
+    fn from(refusal: TrayRefusal) -> u32 {
+        match refusal {
+            TrayRefusal::BadTray => BAD_TRAY,
+            TrayRefusal::ShortRanks => SHORT_RANKS,
+        }
+    }
+}
+
+#[tactic(auto, unfolding(crate::specs::Tray::is_tray))]
 fn is_tray(fields: &[u8]) -> bool
     ensures { result ≡ is_tray fields.now }
 {
-    if fields.len() % FIELD == 0 {
-        fields.len() / FIELD <= MOST_FIELDS
-    } else {
-        false
-    }
+    fields.len() % FIELD == 0 && fields.len() / FIELD <= MOST_FIELDS
 }
 
 // Writes an entry to the front of the room.
@@ -35,11 +50,8 @@ fn put_entry(ranked: Ranked, room: &mut [u32])
     requires { rank_length < length room.old }
     ensures { room.new ≡ laid (ranked.rank ++ ranked.number ∷ []) room.old }
 {
-    let rank = ranked.rank;
-    for place in 0..rank.len() {
-        room[place] = rank[place];
-    }
-    room[rank.len()] = ranked.number;
+    room[..NUMBERS].copy_from_slice(&ranked.rank);
+    room[NUMBERS] = ranked.number;
 }
 
 // Writes the entry of each field to the front of room that is long enough for all.
@@ -47,24 +59,24 @@ fn put_entries(fields: &[u8], ranks: &mut [u32])
     requires { length (entries_of fields.now) ≤ length ranks.old }
     ensures { ranks.new ≡ laid (entries_of fields.now) ranks.old }
 {
-    for field in 0..fields.len() / FIELD {
-        let from = field * FIELD;
-        let past = from + FIELD;
-        let to = field * ENTRY;
-        put_entry(rank(&fields[from..past]), &mut ranks[to..]);
+    // The library says nothing of what a slice ends as whose mutable chunks were lent, so the place in the room is counted.
+    let (each, _) = fields.as_chunks::<FIELD>();
+    for (place, field) in each.iter().enumerate() {
+        put_entry(rank(field), &mut ranks[place * ENTRY..]);
     }
 }
 
 // Ranks every field of a tray.
-pub fn rank_tray(fields: &[u8], ranks: &mut [u32]) -> u32
-    ensures { tray result ranks.new ≡ tray_of fields.now ranks.old }
+#[tactic(auto, using(crate::proofs::Entries::entries_length), unfolding(crate::specs::Tray::tray_of))]
+pub fn rank_tray(fields: &[u8], ranks: &mut [u32]) -> Result<(), TrayRefusal>
+    ensures { tray (number_of result) ranks.new ≡ tray_of fields.now ranks.old }
 {
     if !is_tray(fields) {
-        return BAD_TRAY;
+        return Err(TrayRefusal::BadTray);
     }
     if ranks.len() < fields.len() / FIELD * ENTRY {
-        return SHORT_RANKS;
+        return Err(TrayRefusal::ShortRanks);
     }
     put_entries(fields, ranks);
-    0
+    Ok(())
 }

@@ -1,6 +1,6 @@
 -- A call's result, case by case.
 -- Assumes nothing.
-use Rattle.std.specs.Prelude.{Option, Some, None}
+use Rattle.std.specs.Prelude.{Option, Some, None, Ok, Err}
 use Prim.Native.Nat.{ℕ}
 use native.Mathlib.Omega.{arith}
 use mathlib.Core.Path.{◌≡◌, refl, ap}
@@ -8,10 +8,14 @@ use mathlib.Core.Bool.{Bool, true, false, cond, not}
 use mathlib.Core.List.{List}
 use lib.ListN.{length}
 use Rattle.wire.specs.Length.{is_work_length, bad_work, is_ram_length, bad_ram, is_flash_length, bad_flash}
-use Rattle.machine.specs.Loop.{Acted}
+use Rattle.machine.specs.Stop.{standing_number, accepted_at, ActedTo}
+use Rattle.machine.specs.Told.{refusal_number, told}
+use Rattle.machine.specs.declared.stop.Stop.{Stop}
+use Rattle.machine.specs.declared.refusal.Refusal.{Refusal}
+use Rattle.machine.specs.declared.refusal.Refusal.TheVariants as refusal
+use Rattle.machine.proofs.Refusals.{some-number}
 use Rattle.machine.specs.Session.{bad_record, refused_report, result_of}
 use Rattle.machine.specs.declared.Record.{Record}
-use Rattle.machine.specs.declared.Report.{Report}
 use Rattle.machine.proofs.Results.{refused-length, refused-record, accepted-call}
 use Rattle.memory.specs.Memories.{Memories, Fitting}
 use Rattle.uartboot_flow.specs.declared.step.Step.{Step}
@@ -36,21 +40,20 @@ pub fitting-accepted : (ram flash work : ℕ) → Fitting ram flash work → ref
 unfolding refusal_of
 fitting-accepted ram flash work h = simp (h.work_length, h.ram_length, h.flash_length)
 
-module _ (session : Record) (input reply : List ℕ) (m : Memories) (r : Report) where
-  pub bad-length : (number : ℕ) → number ≡ refusal_of (length m.ram) (length m.flash) (length m.work) → (number ≡ 0 → ⊥) →
-      r ≡ refused_report number session → given_back r reply m ≡ result_of uartboot session m input reply
-  bad-length number e h q = refused-length uartboot session m input reply r number e h q
+module _ (session : Record) (input reply : List ℕ) (m : Memories) where
+  pub bad-length : (why : Refusal) → refusal_number why ≡ refusal_of (length m.ram) (length m.flash) (length m.work) →
+      given_back session (Err why) reply m ≡ result_of uartboot session m input reply
+  bad-length why e = refused-length uartboot session m input reply (refused_report (refusal_number why) session) (refusal_number why) e (some-number why) refl
 
   module _ (fits : refusal_of (length m.ram) (length m.flash) (length m.work) ≡ 0) where
-    pub bad-record : decoded_of (length m.ram) (length m.work) session ≡ None → r ≡ refused_report bad_record session →
-        given_back r reply m ≡ result_of uartboot session m input reply
-    bad-record e q = refused-record uartboot session m input reply r fits (ap (λ (d : Option Step). read_of d session.reason m) e) q
+    pub bad-record : decoded_of (length m.ram) (length m.work) session ≡ None → given_back session (Err refusal.Record) reply m ≡ result_of uartboot session m input reply
+    bad-record e =
+        refused-record uartboot session m input reply (refused_report bad_record session) fits (ap (λ (d : Option Step). read_of d session.reason m) e) refl
 
-    pub good : (s : Step) → decoded_of (length m.ram) (length m.work) session ≡ Some s →
-        (taken sent stands : ℕ) (last : Step) (reason : ℕ) (reply' : List ℕ) (m' : Memories) →
-        Acted device (state s session.reason m) input reply taken sent stands (state last reason m') reply' →
-        r ≡ record { number = 0; standing = stands; taken = taken; sent = sent; session = written last reason } →
-        given_back r reply' m' ≡ result_of uartboot session m input reply
-    good s e taken sent stands last reason reply' m' a q =
-        accepted-call uartboot session m input reply r fits (state s session.reason m) (ap (λ (d : Option Step). read_of d session.reason m) e)
-        taken sent stands (state last reason m') reply' a q
+    pub good : (s : Step) → decoded_of (length m.ram) (length m.work) session ≡ Some s → (end : Stop Step) (reply' : List ℕ) (m' : Memories) →
+        ActedTo device (state s session.reason m) input reply end (state end.at.step end.at.reason m') reply' →
+        given_back session (Ok (accepted_at end (written end.at.step end.at.reason))) reply' m' ≡ result_of uartboot session m input reply
+    good s e end reply' m' a =
+        accepted-call uartboot session m input reply (told refusal_number session (Ok (accepted_at end (written end.at.step end.at.reason)))) fits
+        (state s session.reason m) (ap (λ (d : Option Step). read_of d session.reason m) e)
+        end.at.taken end.at.sent (standing_number end.standing) (state end.at.step end.at.reason m') reply' a refl

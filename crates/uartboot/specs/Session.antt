@@ -1,9 +1,13 @@
 -- The session: a call on a record, input, reply and the memories. It is refused with 1, 2, 3 or 4 (rules, 2.1).
 -- Assumes nothing.
+use Rattle.std.specs.Prelude as std
 use Rattle.std.specs.Prelude.{ℕ, cond, not, List, length, Option, Some, None}
 use Rattle.wire.specs.Length.{is_work_length, bad_work, is_ram_length, bad_ram, is_flash_length, bad_flash}
 use Rattle.machine.specs.Session.{Read, sound, unsound, Session, Result}
-use Rattle.machine.specs.declared.Report.{Report}
+use Rattle.machine.specs.Told.{refusal_number, told}
+use Rattle.machine.specs.declared.Record.{Record}
+use Rattle.machine.specs.declared.Accepted.{Accepted}
+use Rattle.machine.specs.declared.refusal.Refusal.{Refusal}
 use Rattle.memory.specs.Memories.{Memories}
 use Rattle.uartboot_flow.specs.State.{State, state}
 use Rattle.uartboot_flow.specs.Device.{device}
@@ -32,6 +36,6 @@ uartboot =
       memories = λ s. s.mem;
     }
 
--- what a call gives back, with the reply and the memories after it
-abbrev pub given_back : Report → (reply : List ℕ) → Memories → Result Memories
-given_back report reply m = record { report = report; reply = reply; memories = m }
+-- what a call on a record gives back, with the reply and the memories after it
+abbrev pub given_back : Record → std.Result Accepted Refusal → (reply : List ℕ) → Memories → Result Memories
+given_back session outcome reply m = record { report = told refusal_number session outcome; reply = reply; memories = m }

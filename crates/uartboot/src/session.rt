@@ -2,6 +2,7 @@
 ghost use Rattle.std.specs.Prelude.{◌≡◌};
 ghost use Rattle.machine.specs.Session.{result_of};
 ghost use Rattle.machine.specs.Stop.{ActedTo};
+ghost use Rattle.machine.specs.Told.{refusal_number, outcome_number};
 ghost use Rattle.memory.specs.Memories.{memories};
 ghost use Rattle.uartboot_flow.specs.State.{state};
 ghost use Rattle.uartboot_flow.specs.Device.{device};
@@ -9,13 +10,14 @@ ghost use Rattle.uartboot_flow.specs.Sound.{Ready};
 ghost use Rattle.uartboot.specs.Session.{refusal_of, uartboot, given_back};
 
 use machine::ask::Ask;
+use machine::refusal::Refusal;
 use machine::stop::{Place, Standing, Stop};
-use machine::{BAD_RECORD, Record, Report, refused};
+use machine::{Accepted, Record};
 use uartboot_flow::ask::ask_of;
 use uartboot_flow::step::Step;
 use uartboot_record::{decode, encode};
 use uartboot_turn::{send, take};
-use wire::length::{BAD_FLASH, BAD_RAM, BAD_WORK, is_flash_length, is_ram_length, is_work_length};
+use wire::length::{is_flash_length, is_ram_length, is_work_length};
 
 // Acts until a byte or room is missing, or code runs.
 // One loop per session: in a trait the memories would be `&mut` fields, and its clauses on their names are longer than the loop.
@@ -55,20 +57,20 @@ fn act(
     }
 }
 
-// The number that the lengths of the memories are refused with; 0 where they are not.
-pub fn refusal(ram: usize, flash: usize, work: usize) -> u32
-    ensures { result ≡ refusal_of ram flash work }
+// Tests the lengths of the memories, in this order.
+pub fn check_lengths(ram: usize, flash: usize, work: usize) -> Result<(), Refusal>
+    ensures { outcome_number refusal_number result ≡ refusal_of ram flash work }
 {
     if !is_work_length(work) {
-        return BAD_WORK;
+        return Err(Refusal::WorkLength);
     }
     if !is_ram_length(ram) {
-        return BAD_RAM;
+        return Err(Refusal::RamLength);
     }
     if !is_flash_length(flash) {
-        return BAD_FLASH;
+        return Err(Refusal::FlashLength);
     }
-    0
+    Ok(())
 }
 
 // A call to the session.
@@ -79,18 +81,13 @@ pub fn call(
     ram: &mut [u8],
     flash: &mut [u8],
     work: &mut [u8],
-) -> Report
-    ensures { given_back result reply.new (memories ram.new flash.new work.new) ≡ result_of uartboot session (memories ram.old flash.old work.old) input.now reply.old }
+) -> Result<Accepted, Refusal>
+    ensures { given_back session result reply.new (memories ram.new flash.new work.new) ≡ result_of uartboot session (memories ram.old flash.old work.old) input.now reply.old }
 {
-    let number = refusal(ram.len(), flash.len(), work.len());
-    if number != 0 {
-        return refused(number, session);
-    }
-    match decode(ram.len(), work.len(), session) {
-        Some(step) => {
-            let end = act(step, session.reason, input, reply, ram, flash, work);
-            end.report(encode(end.at.step, end.at.reason))
-        }
-        None => refused(BAD_RECORD, session),
-    }
+    check_lengths(ram.len(), flash.len(), work.len())?;
+    let Some(step) = decode(ram.len(), work.len(), session) else {
+        return Err(Refusal::Record);
+    };
+    let end = act(step, session.reason, input, reply, ram, flash, work);
+    Ok(end.accepted(encode(end.at.step, end.at.reason)))
 }

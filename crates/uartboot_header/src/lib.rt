@@ -10,7 +10,7 @@ ghost use Rattle.uartboot_flow.specs.Gives.{Gives};
 
 use machine::step::{Progress, to};
 use numbers::pair;
-use opcodes::{BAD_LENGTH, UNKNOWN_OPCODE, has_length, opcode_of};
+use opcodes::{BAD_LENGTH, UNKNOWN_OPCODE, opcode_of};
 use uartboot_flow::reason::LONG_PAYLOAD;
 use uartboot_flow::step::{CommandStep, HeaderStep, Step};
 use wire::line::SOH;
@@ -23,7 +23,7 @@ fn head(opcode: u32, size: usize, reason: u32, work: &[u8]) -> Progress<Step>
     let Some(known) = opcode_of(opcode) else {
         return to(Step::Refusal, UNKNOWN_OPCODE);
     };
-    if !has_length(known, size) {
+    if !known.has_length(size) {
         return to(Step::Refusal, BAD_LENGTH);
     }
     if work.len() < size {

@@ -8,7 +8,7 @@ ghost use Rattle.uartboot_flow.specs.Flow as flow;
 ghost use Rattle.uartboot_flow.specs.State.{state};
 ghost use Rattle.uartboot_flow.specs.Gives.{state_of};
 
-use command::check::check;
+use command::check::{Sizes, check};
 use command::payload::command_of;
 use machine::step::{Moved, Progress, to};
 use memory::copy::copy_up_to;
@@ -34,19 +34,12 @@ fn arrived(
             reason,
         );
     }
-    let why = check(
-        command_of(opcode, size, work),
-        ram.len(),
-        flash.len(),
-        work.len(),
-    );
-    if why == 0 {
-        to(
+    match check(command_of(opcode, size, work), Sizes::of(ram, flash, work)) {
+        Ok(()) => to(
             Step::Command(opcode, size, CommandStep::SendPayloadAck),
             reason,
-        )
-    } else {
-        to(Step::Refusal, why)
+        ),
+        Err(fault) => to(Step::Refusal, u32::from(fault)),
     }
 }
 

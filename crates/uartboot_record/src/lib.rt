@@ -5,7 +5,7 @@ ghost use Rattle.std.specs.Prelude.{◌≡◌};
 ghost use Rattle.uartboot_record.specs.Record.{fields, header_numbers, command_numbers, answer_numbers, numbers_of, written, places_of, plain_step, payload_step, command_in, answer_step, answer_in, running_in, phase_in, decoded_of};
 
 use machine::Record;
-use opcodes::{Opcode, has_answer, has_length, number_of, opcode_of};
+use opcodes::{Opcode, opcode_of};
 use uartboot_flow::kind::Uartboot;
 use uartboot_flow::step::{AnswerStep, CommandStep, HeaderStep, Step};
 use wire::unit::RamAddress;
@@ -76,10 +76,10 @@ fn numbers_of(step: Step) -> Numbers
     match step {
         Step::Greeting(place) => fields(0, 0, 0, place, 0),
         Step::Header(inner) => header_numbers(inner),
-        Step::Command(opcode, size, inner) => command_numbers(number_of(opcode), size, inner),
-        Step::Answer(opcode, size, inner) => answer_numbers(number_of(opcode), size, inner),
+        Step::Command(opcode, size, inner) => command_numbers(opcode.number(), size, inner),
+        Step::Answer(opcode, size, inner) => answer_numbers(opcode.number(), size, inner),
         Step::Refusal => fields(18, 0, 0, 0, 0),
-        Step::Running(address) => fields(19, number_of(Opcode::Run), 0, 0, address.0),
+        Step::Running(address) => fields(19, Opcode::Run.number(), 0, 0, address.0),
     }
 }
 
@@ -144,7 +144,7 @@ fn command_in(work: usize, opcode: Opcode, n: Numbers) -> Option<Step>
     ensures { result ≡ command_in work opcode n }
 {
     let size = n.length;
-    if !has_length(opcode, size as usize) {
+    if !opcode.has_length(size as usize) {
         return None;
     }
     if work < (size as usize) {
@@ -178,7 +178,7 @@ fn answer_step(phase: u32, place: u32, held: u32) -> AnswerStep
 fn answer_in(work: usize, opcode: Opcode, n: Numbers) -> Option<Step>
     ensures { result ≡ answer_in work opcode n }
 {
-    if !has_answer(opcode) {
+    if !opcode.has_answer() {
         return None;
     }
     if n.length == 0 {
@@ -194,7 +194,7 @@ fn answer_in(work: usize, opcode: Opcode, n: Numbers) -> Option<Step>
 fn running_in(ram: usize, opcode: u32, address: u32) -> Option<Step>
     ensures { result ≡ running_in ram opcode address }
 {
-    if opcode != number_of(Opcode::Run) {
+    if opcode != Opcode::Run.number() {
         return None;
     }
     let address = RamAddress(address);

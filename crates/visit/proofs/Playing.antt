@@ -13,7 +13,7 @@ use Rattle.memory.specs.Memories.{Memories, memories, SameLengths}
 use Rattle.machine.specs.Session.{Result, result_of}
 use Rattle.machine.specs.Listing.{Given}
 use Rattle.machine.specs.declared.Record.{Record}
-use Rattle.machine.specs.declared.Report.{Report}
+use Rattle.machine.specs.Session.{Report}
 use Rattle.uartboot.specs.Session as device
 use Rattle.uartboot_flow.specs.Fresh.{fresh_record}
 use Rattle.sessions.specs.Kind.{uartboot}

@@ -1,29 +1,21 @@
 -- What an accepted length says.
 -- Assumes nothing.
+use Rattle.std.proofs.lemmas.Bool.Decides.{nat_tests}
 use Prim.Native.Nat.{ℕ, ◌≤◌, ◌%◌}
 use mathlib.Core.Path.{◌≡◌}
-use mathlib.Core.Bool.{true, ◌&&◌}
-use lib.Dec.{leb, eqb}
-use borrow.Author.Tests.{leb-true, eqb-true}
+use mathlib.Core.Bool.{true}
+use native.Mathlib.Omega.{arith}
 use Rattle.wire.specs.Length.{is_between, is_ram_length, is_work_length, is_flash_length, largest_ram, largest_flash, largest_work, smallest_work, sector_length}
-use Rattle.wire.proofs.Tests.{both_true}
-
-pub between-bounds : (least most n : ℕ) → is_between least most n ≡ true → (least ≤ n) × (n ≤ most)
-unfolding is_between
-between-bounds least most n e =
-    let b = both_true (leb least n) (leb n most) e in
-    (leb-true least n b.0, leb-true n most b.1)
 
 pub ram-bounds : (n : ℕ) → is_ram_length n ≡ true → (1 ≤ n) × (n ≤ largest_ram)
-ram-bounds n e = between-bounds 1 largest_ram n e
+unfolding is_between
+ram-bounds n e = (grind (arith, nat_tests), grind (arith, nat_tests))
 
 pub work-bounds : (n : ℕ) → is_work_length n ≡ true → (smallest_work ≤ n) × (n ≤ largest_work)
-work-bounds n e = between-bounds smallest_work largest_work n e
+unfolding is_between
+work-bounds n e = (grind (arith, nat_tests), grind (arith, nat_tests))
 
 -- flash is whole sectors, and not too many
 pub flash-bounds : (n : ℕ) → is_flash_length n ≡ true → (n % sector_length ≡ 0) × (n ≤ largest_flash)
 unfolding is_flash_length
-flash-bounds n e =
-    let b = both_true (leb 1 n) (eqb (n % sector_length) 0 && leb n largest_flash) e in
-    let c = both_true (eqb (n % sector_length) 0) (leb n largest_flash) b.1 in
-    (eqb-true (n % sector_length) 0 c.0, leb-true n largest_flash c.1)
+flash-bounds n e = (grind (arith, nat_tests), grind (arith, nat_tests))

@@ -1,6 +1,6 @@
 // The lengths that the memories may have.
 ghost use Rattle.std.specs.Prelude.{◌≡◌};
-ghost use Rattle.wire.specs.Length.{is_between, is_ram_length, is_flash_length, is_work_length};
+ghost use Rattle.wire.specs.Length.{is_ram_length, is_flash_length, is_work_length};
 
 const SMALLEST_RAM: usize = 1;
 
@@ -24,39 +24,26 @@ const LARGEST_WORK: usize = 65_535;
 // The number given for a work buffer of a length that it may not have.
 pub const BAD_WORK: u32 = 1;
 
-fn is_between(size: usize, least: usize, most: usize) -> bool
-    ensures { result ≡ is_between least most size }
-{
-    if size < least {
-        return false;
-    }
-    size <= most
-}
-
 // Whether RAM may have this length.
+#[tactic(auto, unfolding(crate::specs::Length::is_between))]
 pub fn is_ram_length(size: usize) -> bool
     ensures { result ≡ is_ram_length size }
 {
-    is_between(size, SMALLEST_RAM, LARGEST_RAM)
+    (SMALLEST_RAM..=LARGEST_RAM).contains(&size)
 }
 
 // Whether flash may have this length.
-#[tactic(auto, using(crate::proofs::FlashLengths::flash_lengths))]
+#[tactic(auto, unfolding(crate::specs::Length::is_flash_length))]
 pub fn is_flash_length(size: usize) -> bool
     ensures { result ≡ is_flash_length size }
 {
-    if size == 0 {
-        return false;
-    }
-    if size % SECTOR != 0 {
-        return false;
-    }
-    size <= LARGEST_FLASH
+    size != 0 && size % SECTOR == 0 && size <= LARGEST_FLASH
 }
 
 // Whether a work buffer may have this length.
+#[tactic(auto, unfolding(crate::specs::Length::is_between))]
 pub fn is_work_length(size: usize) -> bool
     ensures { result ≡ is_work_length size }
 {
-    is_between(size, SMALLEST_WORK, LARGEST_WORK)
+    (SMALLEST_WORK..=LARGEST_WORK).contains(&size)
 }

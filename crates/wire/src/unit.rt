@@ -7,6 +7,8 @@ use crate::range::place_in;
 // The address of RAM's first byte.
 pub const RAM_BASE: u32 = 0x07FC_0000;
 
+// Two structs: an alias of one over its base could not be called as `RamAddress(n)`, and a trait would be longer than these two calls.
+
 // An address in RAM.
 #[derive(Clone, Copy)]
 pub struct RamAddress(pub u32);
@@ -24,13 +26,11 @@ impl RamAddress {
     }
 
     // Whether the byte at this address lies in a RAM of `ram` bytes.
+    #[tactic(auto, unfolding(crate::specs::Range::place_in))]
     pub fn is_in(self, ram: usize) -> bool
         ensures { result ≡ is_in_ram self ram }
     {
-        match self.place(1, ram) {
-            Some(_) => true,
-            None => false,
-        }
+        self.place(1, ram).is_some()
     }
 }
 

@@ -5,5 +5,5 @@ use Rattle.headers.proofs.header_bytes.Goals as goal
 
 pub returns : goal.returns
 returns c =
-    rw (c.lay.ensures, c.put32-3.ensures, c.put32-2.ensures, c.put32.ensures)
+    rw (c.lay.ensures, c.put-3.ensures, c.put-2.ensures, c.put.ensures)
     (version-laid c.args.id c.args.size c.args.crc c.args.time c.args.version.now c.requires)

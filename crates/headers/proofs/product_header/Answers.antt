@@ -3,4 +3,4 @@
 use Rattle.headers.proofs.product_header.Goals as goal
 
 pub returns : goal.returns
-returns c = rw (c.put32-2.ensures, c.put32.ensures)
+returns c = rw (c.put-2.ensures, c.put.ensures)

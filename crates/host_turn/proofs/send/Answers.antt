@@ -14,12 +14,12 @@ send_payload-requires c =
 pub send_crc-requires : goal.send_crc-requires
 send_crc-requires c =
     let fits = rw c.in-Crc.is at c.requires.fits_sending in
-    rw c.awaited_of-awaited.ensures (fits, c.requires.j_in_bounds)
+    rw c.awaited-awaited.ensures (fits, c.requires.j_in_bounds)
 
 pub send_crc_high-requires : goal.send_crc_high-requires
 send_crc_high-requires c =
     let fits = rw c.in-CrcHigh.is at c.requires.fits_sending in
-    rw c.awaited_of-awaited.ensures (fits, c.requires.j_in_bounds)
+    rw c.awaited-awaited.ensures (fits, c.requires.j_in_bounds)
 
 pub returns-in-Byte : goal.returns-in-Byte
 returns-in-Byte c =
@@ -31,8 +31,8 @@ returns-in-Payload c =
 
 pub returns-in-Crc : goal.returns-in-Crc
 returns-in-Crc c =
-    record { is = λ opcode s known so. rw (rw c.in-Crc.is at so) (c.send_crc.ensures.is opcode _ (ap (λ (e : Exchange). awaited_of e.follows) known ∙ sym c.awaited_of-awaited.ensures)) }
+    record { is = λ opcode s known so. rw (rw c.in-Crc.is at so) (c.send_crc.ensures.is opcode _ (ap (λ (e : Exchange). awaited_of e.follows) known ∙ sym c.awaited-awaited.ensures)) }
 
 pub returns-in-CrcHigh : goal.returns-in-CrcHigh
 returns-in-CrcHigh c =
-    record { is = λ opcode s known so. rw (rw c.in-CrcHigh.is at so) (c.send_crc_high.ensures.is opcode _ (ap (λ (e : Exchange). awaited_of e.follows) known ∙ sym c.awaited_of-awaited.ensures)) }
+    record { is = λ opcode s known so. rw (rw c.in-CrcHigh.is at so) (c.send_crc_high.ensures.is opcode _ (ap (λ (e : Exchange). awaited_of e.follows) known ∙ sym c.awaited-awaited.ensures)) }

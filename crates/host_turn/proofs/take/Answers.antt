@@ -9,7 +9,7 @@ use Rattle.host_turn.proofs.take.Goals as goal
 pub take_answer-requires : goal.take_answer-requires
 take_answer-requires c =
     let fits = rw c.in-Answer.is at c.requires.fits_taking in
-    rw c.awaited_of-awaited.ensures (fits.0, fits.1, c.requires.i_in_bounds)
+    rw c.awaited-awaited.ensures (fits.0, fits.1, c.requires.i_in_bounds)
 
 pub returns-in-Awaited : goal.returns-in-Awaited
 returns-in-Awaited c =
@@ -29,12 +29,12 @@ returns-in-CrcHigh c =
 
 pub returns-in-LengthLow : goal.returns-in-LengthLow
 returns-in-LengthLow c =
-    record { is = λ opcode s known so. takes_at _ _ s _ (rw c.in-LengthLow.is at so) refl refl _ _ c.requires.i_in_bounds _ (c.took_length_low.ensures.is _ (ap (λ (e : Exchange). awaited_of e.follows) known ∙ sym c.awaited_of-awaited.ensures)) _ c.by_one-in-LengthLow.ensures }
+    record { is = λ opcode s known so. takes_at _ _ s _ (rw c.in-LengthLow.is at so) refl refl _ _ c.requires.i_in_bounds _ (c.took_length_low.ensures.is _ (ap (λ (e : Exchange). awaited_of e.follows) known ∙ sym c.awaited-awaited.ensures)) _ c.by_one-in-LengthLow.ensures }
 
 pub returns-in-LengthHigh : goal.returns-in-LengthHigh
 returns-in-LengthHigh c =
-    record { is = λ opcode s known so. takes_at _ _ s _ (rw c.in-LengthHigh.is at so) refl refl _ _ c.requires.i_in_bounds _ (c.took_length_high.ensures.is _ (ap (λ (e : Exchange). awaited_of e.follows) known ∙ sym c.awaited_of-awaited.ensures)) _ c.by_one-in-LengthHigh.ensures }
+    record { is = λ opcode s known so. takes_at _ _ s _ (rw c.in-LengthHigh.is at so) refl refl _ _ c.requires.i_in_bounds _ (c.took_length_high.ensures.is _ (ap (λ (e : Exchange). awaited_of e.follows) known ∙ sym c.awaited-awaited.ensures)) _ c.by_one-in-LengthHigh.ensures }
 
 pub returns-in-Answer : goal.returns-in-Answer
 returns-in-Answer c =
-    record { is = λ opcode s known so. rw (rw c.in-Answer.is at so) (c.take_answer.ensures.is opcode _ (ap (λ (e : Exchange). awaited_of e.follows) known ∙ sym c.awaited_of-awaited.ensures)) }
+    record { is = λ opcode s known so. rw (rw c.in-Answer.is at so) (c.take_answer.ensures.is opcode _ (ap (λ (e : Exchange). awaited_of e.follows) known ∙ sym c.awaited-awaited.ensures)) }

@@ -4,5 +4,5 @@ use mathlib.Core.Path.{sym, ◌∙◌}
 use borrow.Author.Tests.{eq-eqb, ne_eqb}
 use Rattle.uartboot_record.proofs.running_in.Goals as goal
 
-pub returns-then-opcode-number_of : goal.returns-then-opcode-number_of
-returns-then-opcode-number_of c = simp (ne_eqb _ _ (λ e. c.if-opcode-number_of.true (e ∙ sym c.number_of.ensures)))
+pub returns-then-opcode-number : goal.returns-then-opcode-number
+returns-then-opcode-number c = simp (ne_eqb _ _ (λ e. c.if-opcode-number.true (e ∙ sym c.number.ensures)))

@@ -5,5 +5,5 @@ use Rattle.memory.proofs.copy.copy_up_to.Goals as goal
 
 pub returns : goal.returns
 returns c =
-    copied _ _ _ _ _ _ _ c.requires c.least-count.ensures
+    copied _ _ _ _ _ _ _ c.requires c.min-count.ensures
     c.lay.ensures

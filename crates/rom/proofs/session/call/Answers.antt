@@ -8,8 +8,7 @@ use Rattle.rom.proofs.Calls.{bad-length, bad-record, good}
 use Rattle.rom.proofs.session.call.Goals as goal
 
 pub returns-then-not-is_ram_length : goal.returns-then-not-is_ram_length
-returns-then-not-is_ram_length c =
-    bad-length _ _ _ _ _ (sym c.is_ram_length.ensures ∙ c.if-not-is_ram_length.true) c.refused.ensures
+returns-then-not-is_ram_length c = bad-length _ _ _ _ (sym c.is_ram_length.ensures ∙ c.if-not-is_ram_length.true)
 
 pub overflow_cast-size : goal.overflow_cast-size
 overflow_cast-size c = omega (arith, (ram-bounds _ (sym c.is_ram_length.ensures ∙ c.if-not-is_ram_length.false)).1)
@@ -21,11 +20,11 @@ act-end-requires c =
       step_sound = decoded-sound _ c.args.session _ _ (sym c.decode.ensures ∙ c.in-Some.is);
     }
 
-pub returns-in-Some : goal.returns-in-Some
-returns-in-Some c =
-    good _ _ _ _ _ (sym c.is_ram_length.ensures ∙ c.if-not-is_ram_length.false) _ _ (sym c.decode.ensures ∙ c.in-Some.is)
-    _ _ _ _ _ _ _ c.act-end.ensures (rw (c.report.ensures, c.encode.ensures) refl)
+pub returns-in_default : goal.returns-in_default
+returns-in_default c =
+    bad-record _ _ _ _ (sym c.is_ram_length.ensures ∙ c.if-not-is_ram_length.false) (sym c.decode.ensures ∙ c.in_default.is)
 
-pub returns-in-None : goal.returns-in-None
-returns-in-None c =
-    bad-record _ _ _ _ _ (sym c.is_ram_length.ensures ∙ c.if-not-is_ram_length.false) (sym c.decode.ensures ∙ c.in-None.is) c.refused-in-None.ensures
+pub returns : goal.returns
+returns c =
+    rw (c.accepted.ensures, c.encode.ensures) (good _ _ _ _ (sym c.is_ram_length.ensures ∙ c.if-not-is_ram_length.false) _ _ (sym c.decode.ensures ∙ c.in-Some.is)
+    _ _ _ c.act-end.ensures)

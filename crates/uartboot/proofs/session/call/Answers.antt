@@ -3,24 +3,24 @@
 use mathlib.Core.Path.{refl, sym, ◌∙◌}
 use Rattle.uartboot_record.proofs.Records.{decoded-sound}
 use Rattle.uartboot.proofs.Calls.{fitting, bad-length, bad-record, good}
+use Rattle.std.proofs.lemmas.Result.{err_from_is_err_and}
 use Rattle.uartboot.proofs.session.call.Goals as goal
 
-pub returns-then-number-ne0 : goal.returns-then-number-ne0
-returns-then-number-ne0 c =
-    bad-length _ _ _ _ _ _ c.refusal-number.ensures c.if-number-ne0.true c.refused.ensures
+pub returns-in_err-check_lengths : goal.returns-in_err-check_lengths
+returns-in_err-check_lengths c =
+    let left = err_from_is_err_and c.from_residual.result c.from_residual.ensures.1 in
+    rw (left.1, left.2) (bad-length _ _ _ _ _ c.in_err-check_lengths.ensures)
 
 pub act-end-requires : goal.act-end-requires
 act-end-requires c =
     record {
-      fitting = fitting _ _ _ (sym c.refusal-number.ensures ∙ c.if-number-ne0.false);
+      fitting = fitting _ _ _ (sym c.in_ok-check_lengths.ensures);
       step_sound = decoded-sound _ _ c.args.session _ (sym c.decode.ensures ∙ c.in-Some.is);
     }
 
-pub returns-in-Some : goal.returns-in-Some
-returns-in-Some c =
-    good _ _ _ _ _ (sym c.refusal-number.ensures ∙ c.if-number-ne0.false) _ (sym c.decode.ensures ∙ c.in-Some.is) _ _ _ _ _ _ _
-    c.act-end.ensures (rw (c.report.ensures, c.encode.ensures) refl)
+pub returns-in_default : goal.returns-in_default
+returns-in_default c = bad-record _ _ _ _ (sym c.in_ok-check_lengths.ensures) (sym c.decode.ensures ∙ c.in_default.is)
 
-pub returns-in-None : goal.returns-in-None
-returns-in-None c =
-    bad-record _ _ _ _ _ (sym c.refusal-number.ensures ∙ c.if-number-ne0.false) (sym c.decode.ensures ∙ c.in-None.is) c.refused-in-None.ensures
+pub returns : goal.returns
+returns c =
+    rw (c.accepted.ensures, c.encode.ensures) (good _ _ _ _ (sym c.in_ok-check_lengths.ensures) _ (sym c.decode.ensures ∙ c.in-Some.is) _ _ _ c.act-end.ensures)
