@@ -34,6 +34,6 @@ pub extern "C" fn und_host_call(
     ensures { handed result words.new output.new (lent opcode payload.now answer.new) ≡ handed_of (result_of host_session (record_of words.old) (lent opcode payload.now answer.old) input.now output.old) }
 {
     let session = Record::from(*words);
-    let report = host::session::call(session, opcode, payload, input, output, answer);
-    hand_back(report, words)
+    let outcome = host::session::call(session, opcode, payload, input, output, answer);
+    hand_back(outcome.map_err(u32::from), words)
 }

@@ -31,6 +31,6 @@ pub extern "C" fn und_rom_call(
     ensures { handed result words.new reply.new ram.new ≡ handed_of (result_of rom (record_of words.old) ram.old input.now reply.old) }
 {
     let session = Record::from(*words);
-    let report = rom::session::call(session, input, reply, ram);
-    hand_back(report, words)
+    let outcome = rom::session::call(session, input, reply, ram);
+    hand_back(outcome.map_err(u32::from), words)
 }

@@ -34,6 +34,6 @@ pub extern "C" fn und_uartboot_call(
     ensures { handed result words.new reply.new (memories ram.new flash.new work.new) ≡ handed_of (result_of uartboot (record_of words.old) (memories ram.old flash.old work.old) input.now reply.old) }
 {
     let session = Record::from(*words);
-    let report = uartboot::session::call(session, input, reply, ram, flash, work);
-    hand_back(report, words)
+    let outcome = uartboot::session::call(session, input, reply, ram, flash, work);
+    hand_back(outcome.map_err(u32::from), words)
 }

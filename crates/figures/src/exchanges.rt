@@ -1,53 +1,49 @@
 // Exchanges with a receiver and with uartboot, each in one call from a fresh record.
 use crc::crc_of;
-use machine::Report;
+use machine::{Accepted, Record};
 use rom_flow::kind::Receiver;
-use show::{bytes, decimal, hex, text};
+use show::{bytes, hex, text};
 use std::io;
 use uartboot_flow::kind::Uartboot;
 
-// The first `count` bytes, or as many as there are.
-fn first<'a>(bytes: &'a [u8], count: usize) -> &'a [u8] {
-    if count <= bytes.len() {
-        &bytes[0..count]
-    } else {
-        bytes
-    }
-}
-
-fn line(rt: &impl Print, name: &[u8], host: &[u8], reply: &[u8], report: Report) -> io::Result<()> {
+// What went, and the record then; a refused call sends nothing and leaves the record that it was given.
+fn line(
+    rt: &impl Print,
+    name: &[u8],
+    host: &[u8],
+    reply: &[u8],
+    done: Option<Accepted>,
+    given: Record,
+) -> io::Result<()> {
+    let (sent, session) = match done {
+        Some(done) => (done.sent, done.session),
+        None => (0, given),
+    };
     text(rt, name)?;
     bytes(rt, host)?;
     text(rt, b": device")?;
-    bytes(rt, first(reply, report.sent))?;
-    text(rt, b"; phase ")?;
-    decimal(rt, report.session.phase as u64)?;
-    text(rt, b", length ")?;
-    decimal(rt, report.session.length as u64)?;
-    text(rt, b"\n")
+    bytes(rt, reply.get(..sent).unwrap_or(reply))?;
+    let Record { phase, length, .. } = session;
+    print!(rt; "; phase {phase}, length {length}\n")
 }
 
 // A RAM of 65,536 bytes.
 fn extended(rt: &impl Print, host: &[u8]) -> io::Result<()> {
     let mut reply = [0u8; 16];
     let mut ram = [0u8; 65_536];
-    let report = rom::session::call(Receiver::fresh(Receiver::E), host, &mut reply, &mut ram);
-    line(rt, b"E, host", host, &reply, report)
+    let fresh = Receiver::fresh(Receiver::E);
+    let done = rom::session::call(fresh, host, &mut reply, &mut ram).ok();
+    line(rt, b"E, host", host, &reply, done, fresh)
 }
 
 fn uartboot(rt: &impl Print, host: &[u8], flash: &mut [u8]) -> io::Result<()> {
     let mut reply = [0u8; 32];
     let mut ram = [0u8; 16];
     let mut work = [0u8; 64];
-    let report = uartboot::session::call(
-        Uartboot::fresh(),
-        host,
-        &mut reply,
-        &mut ram,
-        flash,
-        &mut work,
-    );
-    line(rt, b"uartboot, host", host, &reply, report)
+    let fresh = Uartboot::fresh();
+    let done =
+        uartboot::session::call(fresh, host, &mut reply, &mut ram, flash, &mut work).ok();
+    line(rt, b"uartboot, host", host, &reply, done, fresh)
 }
 
 // Offset 4,096, size 4,096.

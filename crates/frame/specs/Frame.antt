@@ -1,6 +1,6 @@
 -- The boot frame (rules, 5.1), and when it is refused (rules, 2.3).
 -- Assumes nothing.
-use Rattle.std.specs.Prelude.{ℕ, ◌-◌, List, [], ◌∷◌, ◌++◌, Bool, false, cond, eqb, leb, ltb, length}
+use Rattle.std.specs.Prelude.{ℕ, ◌-◌, List, [], ◌∷◌, ◌++◌, Bool, false, cond, eqb, leb, ltb, length, Result, Ok, Err}
 use Rattle.memory.specs.Store.{laid}
 use Rattle.rom_flow.specs.declared.kind.Kind.{Kind}
 use Rattle.rom_flow.specs.declared.kind.Kind.TheVariants.{P, E}
@@ -8,6 +8,8 @@ use Rattle.wire.specs.Line.{soh, ack}
 use Rattle.numbers.specs.Number.{bytes_of}
 use Rattle.rom_flow.specs.Flow.{first_extended}
 use Rattle.frame.specs.declared.Framed.{Framed}
+use Rattle.frame.specs.declared.Refusal.{Refusal}
+use Rattle.frame.specs.declared.Refusal.TheVariants.{EmptyCode, LongCode, ShortOutput}
 
 -- the longest code that the length field of a kind can say
 abbrev pub longest : Kind → ℕ
@@ -41,6 +43,16 @@ short_output = 43
 
 abbrev pub refused : (number : ℕ) → Framed
 refused number = record { number = number; length = 0 }
+
+abbrev pub refusal_number : Refusal → ℕ
+refusal_number EmptyCode = empty_code
+refusal_number LongCode = long_code
+refusal_number ShortOutput = short_output
+
+-- the number 0 and a frame's length, or a refusal
+abbrev pub framed_as : Result ℕ Refusal → Framed
+framed_as (Ok length) = record { number = 0; length = length }
+framed_as (Err why) = refused (refusal_number why)
 
 -- what is given back, and the output afterwards
 pub record Written : Type 0 where

@@ -3,7 +3,7 @@
 
 ghost use Rattle.std.specs.Prelude.{◌≡◌, ◌≤◌, length};
 ghost use Rattle.memory.specs.Store.{laid};
-ghost use Rattle.frame.specs.Frame.{longest, is_extended, header_of, frame_of, refused, written, framed_of};
+ghost use Rattle.frame.specs.Frame.{longest, is_extended, header_of, frame_of, refusal_number, framed_as, written, framed_of};
 
 use memory::store::lay;
 use numbers::put::put;
@@ -33,12 +33,37 @@ pub struct Framed {
     pub length: usize,
 }
 
-fn refused(number: u32) -> Framed
-    ensures { result ≡ refused number }
-{
-    Framed {
-        number: number,
-        length: 0,
+// Why no frame is written.
+#[derive(Clone, Copy, Debug, PartialEq, Eq)]
+pub enum Refusal {
+    EmptyCode,
+    LongCode,
+    ShortOutput,
+}
+
+impl From<Refusal> for u32 {
+    ghost from_gives = { λ why number. number ≡ refusal_number why };
+
+    fn from(why: Refusal) -> u32 {
+        match why {
+            Refusal::EmptyCode => EMPTY_CODE,
+            Refusal::LongCode => LONG_CODE,
+            Refusal::ShortOutput => SHORT_OUTPUT,
+        }
+    }
+}
+
+impl From<Result<usize, Refusal>> for Framed {
+    ghost from_gives = { λ outcome framed. framed ≡ framed_as outcome };
+
+    fn from(outcome: Result<usize, Refusal>) -> Framed {
+        match outcome {
+            Ok(length) => Framed { number: 0, length },
+            Err(why) => Framed {
+                number: why.into(),
+                length: 0,
+            },
+        }
     }
 }
 
@@ -94,25 +119,29 @@ fn put_frame(kind: Kind, code: &[u8], out: &mut [u8])
     out[place + code.len()] = ACK;
 }
 
-// Writes the boot frame of a code to the front of the output. Where it is refused, the output stays as it was.
+// Writes the boot frame of a code to the front of the output, and gives its length. Where it is refused, the output stays as it was.
 #[tactic(auto, unfolding(crate::specs::Frame::framed_of))]
-pub fn frame(kind: Kind, code: &[u8], out: &mut [u8]) -> Framed
-    ensures { written result out.new ≡ framed_of kind code.now out.old }
+pub fn write_frame(kind: Kind, code: &[u8], out: &mut [u8]) -> Result<usize, Refusal>
+    ensures { written (framed_as result) out.new ≡ framed_of kind code.now out.old }
 {
     let count = code.len();
     if count == 0 {
-        return refused(EMPTY_CODE);
+        return Err(Refusal::EmptyCode);
     }
     if longest(kind) < count {
-        return refused(LONG_CODE);
+        return Err(Refusal::LongCode);
     }
     let length = header_length(kind, count) + count + 1;
     if out.len() < length {
-        return refused(SHORT_OUTPUT);
+        return Err(Refusal::ShortOutput);
     }
     put_frame(kind, code, out);
-    Framed {
-        number: 0,
-        length: length,
-    }
+    Ok(length)
+}
+
+// The same, as C gets it.
+pub fn frame(kind: Kind, code: &[u8], out: &mut [u8]) -> Framed
+    ensures { written result out.new ≡ framed_of kind code.now out.old }
+{
+    write_frame(kind, code, out).into()
 }

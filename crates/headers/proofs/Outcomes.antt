@@ -3,26 +3,26 @@
 use Rattle.std.specs.Prelude.{Some, None}
 use Rattle.std.specs.Bool.{then_some}
 use Prim.Native.Nat.{ℕ}
-use mathlib.Core.Path.{◌≡◌, refl}
+use mathlib.Core.Path.{◌≡◌, sym, refl}
 use mathlib.Core.List.{List}
 use mathlib.Core.Bool.{Bool, true, false}
-use native.Mathlib.Omega.{arith}
 use lib.ListN.{length}
+use Rattle.std.proofs.lemmas.Option.{none-some}
 use Rattle.version.specs.Text.{field_length, well_formed}
 use Rattle.version.specs.Rank.{numbers_of}
 use Rattle.headers.proofs.Fields.{field-length}
 
-taken : (well : Bool) (numbers rank : List ℕ) → then_some well numbers ≡ Some rank → well ≡ true
-taken true numbers rank e = refl
-taken false numbers rank e = absurd (let z : ◌≡◌ {A = ℕ} 0 1 = cc in omega arith)
+kept : (well : Bool) (numbers rank : List ℕ) → then_some well numbers ≡ Some rank → well ≡ true
+kept true numbers rank e = refl
+kept false numbers rank e = absurd (none-some rank e)
 
 left : (well : Bool) (numbers : List ℕ) → then_some well numbers ≡ None → well ≡ false
-left true numbers e = absurd (let z : ◌≡◌ {A = ℕ} 0 1 = cc in omega arith)
+left true numbers e = absurd (none-some numbers (sym e))
 left false numbers e = refl
 
 module _ (version : List ℕ) where
   pub formed : (rank : List ℕ) → numbers_of version ≡ Some rank → well_formed version ≡ true
-  formed rank e = taken _ _ rank e
+  formed rank e = kept _ _ rank e
 
   pub malformed : numbers_of version ≡ None → well_formed version ≡ false
   malformed e = left _ _ e

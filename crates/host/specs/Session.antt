@@ -1,9 +1,14 @@
 -- The host's session: a call on a record, the device's bytes, room for the host's own, and what is lent. It is refused with 71, 72 or 4
 -- (rules, 15.2 and 15.6).
 -- Assumes nothing.
+use Rattle.std.specs.Prelude as std
 use Rattle.std.specs.Prelude.{ℕ, List, Option, Some, None}
 use Rattle.machine.specs.Session.{Read, sound, unsound, Session, Result}
-use Rattle.machine.specs.Session.{Report}
+use Rattle.machine.specs.Told.{told}
+use Rattle.machine.specs.declared.Record.{Record}
+use Rattle.machine.specs.declared.Accepted.{Accepted}
+use Rattle.host.specs.declared.refusal.CallRefusal.{CallRefusal}
+use Rattle.host.specs.Refusal.{refusal_number}
 use Rattle.host_command.specs.Exchange.{Lent, exchange}
 use Rattle.host_command.specs.Refusal.{refusal_of}
 use Rattle.host_flow.specs.State.{State, state}
@@ -25,6 +30,6 @@ host_session =
       memories = λ s. s.lent;
     }
 
--- what a call gives back, with the output and what is lent after it
-abbrev pub given_back : Report → (output : List ℕ) → Lent → Result Lent
-given_back report output c = record { report = report; reply = output; memories = c }
+-- what a call on a record gives back, with the output and what is lent after it
+abbrev pub given_back : Record → std.Result Accepted CallRefusal → (output : List ℕ) → Lent → Result Lent
+given_back session outcome output c = record { report = told refusal_number session outcome; reply = output; memories = c }

@@ -8,13 +8,14 @@ ghost use Rattle.host_flow.specs.Host.{host};
 ghost use Rattle.host_flow.specs.Sound.{Ready};
 ghost use Rattle.host.specs.Session.{host_session, given_back};
 
+use crate::refusal::CallRefusal;
 use host_command::{Exchange, judge};
 use host_flow::ask::{Ask, ask_of};
 use host_flow::step::Step;
 use host_record::{decode, encode};
 use host_turn::{look, send, take};
 use machine::stop::{Place, Standing, Stop};
-use machine::{BAD_RECORD, Record, Report, refused};
+use machine::{Accepted, Record};
 
 // Acts until a byte or room is missing, or the command is over. After a look it is over.
 // One loop per session: in a trait the memories would be `&mut` fields, and its clauses on their names are longer than the loop.
@@ -71,17 +72,13 @@ pub fn call(
     input: &[u8],
     output: &mut [u8],
     answer: &mut [u8],
-) -> Report
-    ensures { given_back result output.new (lent opcode payload.now answer.new) ≡ result_of host_session session (lent opcode payload.now answer.old) input.now output.old }
+) -> Result<Accepted, CallRefusal>
+    ensures { given_back session result output.new (lent opcode payload.now answer.new) ≡ result_of host_session session (lent opcode payload.now answer.old) input.now output.old }
 {
-    match judge(opcode, payload, answer) {
-        Err(refusal) => refused(u32::from(refusal), session),
-        Ok(x) => match decode(x, session) {
-            None => refused(BAD_RECORD, session),
-            Some(step) => {
-                let end = act(x, step, session.reason, payload, input, output, answer);
-                end.report(encode(end.at.step, end.at.reason))
-            }
-        },
-    }
+    let x = judge(opcode, payload, answer)?;
+    let Some(step) = decode(x, session) else {
+        return Err(CallRefusal::Record);
+    };
+    let end = act(x, step, session.reason, payload, input, output, answer);
+    Ok(end.accepted(encode(end.at.step, end.at.reason)))
 }

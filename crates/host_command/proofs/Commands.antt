@@ -17,7 +17,7 @@ use Rattle.opcodes.proofs.Opcodes.{opcode-number}
 use Rattle.host_command.specs.declared.Refusal.TheVariants.{BadCommand, ShortAnswer}
 use Rattle.host_command.specs.declared.Exchange.{Exchange}
 use Rattle.host_command.specs.Exchange.{Lent, lent, follows_command, exchange_of, exchange, awaited_of, awaited}
-use Rattle.host_command.specs.Refusal.{bad_command, short_answer, longest_payload, is_command, refusal_of, judged_of}
+use Rattle.host_command.specs.Refusal.{bad_command, short_answer, longest_payload, is_command, refusal_of, refusal_number, refusal_with, judged_of}
 
 -- an opcode's number has one byte
 one_byte : (opcode : Opcode) → low_byte (opcode_number opcode) ≡ opcode_number opcode
@@ -82,6 +82,16 @@ module _ (n : ℕ) (payload answer : List ℕ) (opcode : Opcode) (known : opcode
       taken h = ap Ok same-exchange ∙ good c is_one (rw follows_is h)
 
 pub ruleset judgements = (unknown, unfit, long, cramped, taken)
+
+-- a refused command's refusal has the number that the definition gives
+pub has-number : (c : Lent) → (refusal_of c ≡ 0 → ⊥) → refusal_number (refusal_with (refusal_of c)) ≡ refusal_of c
+unfolding refusal_of
+has-number c h = go (is_command (opcode_of c.opcode) (length c.payload)) (ltb (length c.answer) (awaited c)) h
+  where
+    go : (x y : Bool) → let n = cond (not x) bad_command (cond y short_answer 0) in (n ≡ 0 → ⊥) → refusal_number (refusal_with n) ≡ n
+    go false y h = refl
+    go true true h = refl
+    go true false h = absurd (h refl)
 
 -- what is known of an accepted command: it is one, and its answer has room
 pub record Fits (c : Lent) : Type 0 where

@@ -1,7 +1,6 @@
 -- The refusals of a host's command (rules, 2.1 and 15.2): 71, then 72, before any byte is sent.
 -- Assumes nothing.
 use Rattle.std.specs.Prelude.{ℕ, Bool, false, cond, not, ◌&&◌, eqb, leb, ltb, length, Option, Some, None, Result, Ok, Err}
-use Rattle.opcodes.specs.declared.Opcode.{Opcode}
 use Rattle.opcodes.specs.Opcode.{opcode_of, has_length}
 use Rattle.host_command.specs.declared.Exchange.{Exchange}
 use Rattle.host_command.specs.declared.Refusal.{Refusal}

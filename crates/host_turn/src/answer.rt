@@ -36,8 +36,8 @@ pub fn take_answer(
     let count = copy_up_to(input, i, answer, place as usize, size as usize);
     Moved {
         step: collected_step(size, place + (count as u32)),
-        reason: reason,
-        count: count,
+        reason,
+        count,
     }
 }
 

@@ -79,7 +79,7 @@ pub fn look(reason: u32, byte: u8) -> Moved<Step>
     if byte == STX {
         return Moved {
             step: Step::Over,
-            reason: reason,
+            reason,
             count: 0,
         };
     }

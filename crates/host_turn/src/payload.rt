@@ -34,7 +34,7 @@ pub fn send_payload(
     let count = copy_up_to(payload, place as usize, output, j, room);
     Moved {
         step: paid_step(size, place + (count as u32)),
-        reason: reason,
-        count: count,
+        reason,
+        count,
     }
 }

@@ -1,7 +1,7 @@
--- What it means that an image was found, or was not.
+-- What it means that an image was found.
 -- Assumes nothing.
 use Prim.Native.Nat.{ℕ, ◌+◌, ◌≤◌}
-use mathlib.Core.Path.{◌≡◌, refl}
+use mathlib.Core.Path.{◌≡◌, sym, refl, ap}
 use mathlib.Core.List.{List}
 use mathlib.Core.Bool.{Bool, true, false, cond}
 use native.Mathlib.Omega.{arith}
@@ -10,9 +10,10 @@ use lib.ListN.{length}
 use borrow.Author.Tests.{leb-true}
 use borrow.Table.Steps.{cases}
 use Rattle.std.specs.Prelude.{Option, Some, None}
+use Rattle.std.proofs.lemmas.Option.{cond_some}
 use Rattle.image.specs.declared.rule.Rule.{Rule}
 use Rattle.image.specs.declared.Image.{Image}
-use Rattle.image.specs.Header.{size_at, header_length}
+use Rattle.image.specs.Header.{id_at, size_at, header_length}
 use Rattle.image.specs.Rule.{rule_number, first_broken}
 use Rattle.image.specs.Valid.{is_valid, image_at}
 
@@ -36,23 +37,12 @@ module _ (memory : List ℕ) (offset : ℕ) where
       (λ t. absurd (let q : false ≡ true = simp (t, by-test, either) at e in let z : ◌≡◌ {A = ℕ} 0 1 = cc in omega arith))
 
   module _ (image : Image) (found : image_at memory offset ≡ Some image) where
-    pub found-valid : is_valid memory offset ≡ true
+    found-both : (is_valid memory offset ≡ true) × (record { id = id_at memory offset; size = size_at memory offset } ≡ image)
     unfolding image_at
-    found-valid =
-        cases (is_valid memory offset)
-        (λ t. t)
-        (λ t. absurd (let q : None ≡ Some image = simp t at found in let z : ◌≡◌ {A = ℕ} 0 1 = cc in omega arith))
+    found-both = cond_some (is_valid memory offset) _ image found
 
     pub found-size : image.size ≡ size_at memory offset
-    unfolding image_at
-    found-size = let q = simp found-valid at found in cc q
+    found-size = ap (λ (i : Image). i.size) (sym found-both.1)
 
     pub found_inside : offset + header_length + image.size ≤ length memory
-    found_inside = omega (arith, valid-inside found-valid, found-size)
-
-  pub found-invalid : image_at memory offset ≡ None → is_valid memory offset ≡ false
-  unfolding image_at
-  found-invalid e =
-      cases (is_valid memory offset)
-      (λ t. absurd (let q = simp t at e in let z : ◌≡◌ {A = ℕ} 0 1 = cc q in omega arith))
-      (λ t. t)
+    found_inside = omega (arith, valid-inside found-both.0, found-size)

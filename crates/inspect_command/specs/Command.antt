@@ -1,7 +1,6 @@
 -- What a command's payload says, in numbers (rules, 6.7), or its refusal with 11 or 12 (rules, 2.3).
 -- Assumes nothing.
 use Rattle.std.specs.Prelude.{ℕ, List, cond, not, ltb, length, Option, Some, None, Result, Ok, Err}
-use Rattle.opcodes.specs.declared.Opcode.{Opcode}
 use Rattle.command.specs.declared.payload.Command.{Command}
 use Rattle.command.specs.declared.payload.Command.TheVariants.{Write, Read, Copy, Erase, Run, ReadQspi, Version, ChipErase, DirectWrite}
 use Rattle.opcodes.specs.Opcode.{unknown_opcode, bad_length, opcode_of, has_length}

@@ -123,7 +123,7 @@ pub fn judge(installed: &[u8], candidate: &[u8]) -> Offered
 }
 
 // The code of the file that wins, as a part of that file, and the offer's number. Where the offer is refused, the part is the
-// installed file's first 0 bytes.
+// installed file's first 0 bytes. The number stays lent, for the clause `number_after`.
 #[tactic(auto, using(crate::proofs::Handed::handed))]
 pub fn offer<'a>(installed: &'a [u8], candidate: &'a [u8], number: &mut u32) -> &'a [u8]
     ensures hands_back { HandsBack installed.entry candidate.entry result }

@@ -38,8 +38,8 @@ pub fn take_code(
     let count = copy_up_to(input, i, ram, place as usize, total as usize);
     Moved {
         step: code_step(total, place + (count as u32)),
-        reason: reason,
-        count: count,
+        reason,
+        count,
     }
 }
 

@@ -38,7 +38,7 @@ pub fn send_answer(
     let count = copy_up_to(&work[..end], place as usize, reply, j, room);
     Moved {
         step: showed(opcode, size, place + (count as u32)),
-        reason: reason,
-        count: count,
+        reason,
+        count,
     }
 }

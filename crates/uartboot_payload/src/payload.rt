@@ -71,8 +71,8 @@ pub fn take_payload(
     );
     let step = after.step;
     Moved {
-        step: step,
+        step,
         reason: after.reason,
-        count: count,
+        count,
     }
 }

@@ -1,27 +1,42 @@
 -- Replies held to recorded bytes, one after the other.
 -- Assumes nothing.
-use Prim.Native.Nat.{ℕ, suc, ◌+◌, ◌≤◌, ◌<◌}
+use Prim.Native.Nat.{ℕ, suc, ◌+◌, ◌^◌, ◌≤◌, ◌<◌}
 use native.Mathlib.Omega.{arith}
 use native.Mathlib.Numerals.{add-one}
 use mathlib.Core.Path.{◌≡◌, refl, sym, ap, ◌∙◌}
 use mathlib.Core.Bool.{true, false}
 use mathlib.Core.List.{List, [], ◌∷◌, ◌++◌}
 use lib.Dec.{eqb, ltb}
-use lib.ListN.{length, get_or, drop, drop_of_length-le}
+use lib.ListN.{length, get_or, drop, length-drop, length-append, drop_of_length-le}
 use lib.Seq.{drop-cons}
 use borrow.Author.Tests.{ltb-true, ltb-false}
 use borrow.Table.Steps.{cases}
-use Rattle.recording.specs.Form.{device_kind}
+use denote.Bor.{Bor}
+use Rattle.std.specs.Prelude.{Option, None, Some, slice_get, Result, Ok, Err, IfOk}
+use Rattle.std.specs.Option.{option_eq, option_copied}
 use Rattle.recording.specs.Left.{left_in, IsRun, Leaves}
 use Rattle.recording.specs.declared.run.Run.{Run}
-use Rattle.recording.proofs.Runs.{first-left, none_left}
+use Rattle.recording.proofs.Runs.{empty, first-left, none_left}
 use Rattle.visit.specs.Compared.{differs, compared_from}
 use Rattle.visit.specs.Held.{is_next, verdict_of, IsHeld, Holds}
 use Rattle.visit.specs.Replay.{answer_of}
 use Rattle.visit.specs.declared.held.Held.{Held}
 
 abbrev pub held_of : (run : Run) (place : ℕ) → Held
-held_of run place = record { run = run; place = place; same = true }
+held_of run place = record { run = run; place = place }
+
+-- a byte held to the next of a run, both behind references
+same-next : (next : Option (Bor ℕ)) (byte : Bor ℕ) → option_eq (λ (x y : Bor ℕ). eqb x.now y.now) next (Some byte) ≡ option_eq eqb (option_copied next) (Some byte.now)
+same-next None byte = refl
+same-next (Some next) byte = refl
+
+pub next-is : (run : Run) → IsRun run → (next : Option (Bor ℕ)) → option_copied next ≡ slice_get run.bytes.now 0 → (byte : Bor ℕ) →
+    option_eq (λ (x y : Bor ℕ). eqb x.now y.now) next (Some byte) ≡ is_next byte.now (left_in run)
+next-is run is next first at = same-next next at ∙ ap (λ (o : Option ℕ). option_eq eqb o (Some at.now)) first ∙ go run.bytes.now refl
+  where
+    go : (bytes : List ℕ) → run.bytes.now ≡ bytes → option_eq eqb (slice_get bytes 0) (Some at.now) ≡ is_next at.now (left_in run)
+    go [] e = rw (none_left run is e) refl
+    go (next ∷ bytes) e = rw (first-left run (omega (arith, ap length e))) (rw e refl)
 
 -- of no bytes none is next
 never-next : (byte : ℕ) → is_next byte [] ≡ true → ⊥
@@ -37,76 +52,69 @@ agrees-here place [] byte more e = absurd (never-next byte e)
 agrees-here place (next ∷ left) byte more e = rw e refl
 
 -- i of the replies agreed
-pub record Going (file : List ℕ) (held : Held) (replies : List ℕ) (i : ℕ) (run : Run) (place : ℕ) : Type 0 where
-  pub is_held : IsHeld file (held_of run place)
-  pub verdict : (more : List ℕ) → verdict_of file held (replies ++ more) ≡ compared_from place (left_in device_kind file run) (drop i replies ++ more)
+pub record Going (held : Result Held ℕ) (replies : List ℕ) (i : ℕ) (now : Held) : Type 0 where
+  pub is_held : IsHeld now
+  pub verdict : (more : List ℕ) → verdict_of held (replies ++ more) ≡ compared_from now.place (left_in now.run) (drop i replies ++ more)
 
 -- none yet; a comparison that is over stays
-pub going-first : (file : List ℕ) (held : Held) (replies : List ℕ) → IsHeld file held → Going file (held_of held.run held.place) replies 0 held.run held.place
-going-first file held replies h = record { is_held = record { is_run = h.is_run; counted = h.counted }; verdict = λ more. refl }
+pub going-first : (held : Result Held ℕ) (replies : List ℕ) (now : Held) → held ≡ Ok now → IsHeld now → Going held replies 0 now
+going-first held replies now e h = record { is_held = h; verdict = λ more. rw e refl }
 
-pub so-far-same : (file : List ℕ) (held : Held) (replies : List ℕ) (next : Held) → held.same ≡ true → Holds file (held_of held.run held.place) replies next → Holds file held replies next
-so-far-same file held replies next e h = record { is_held = h.is_held; verdict = λ more. rw e (h.verdict more) }
+pub settled : (held : Result Held ℕ) (replies : List ℕ) (place : ℕ) → held ≡ Err place → Holds held replies (Err place)
+settled held replies place e = record { is_held = tt; verdict = λ more. rw e refl }
 
-pub settled : (file : List ℕ) (held : Held) (replies : List ℕ) → IsHeld file held → held.same ≡ false → Holds file held replies held
-settled file held replies h e = record { is_held = h; verdict = λ more. rw e refl }
-
-module _ {file : List ℕ} {held : Held} {replies : List ℕ} {i : ℕ} {run : Run} {place : ℕ} (g : Going file held replies i run place) where
+module _ {held : Result Held ℕ} {replies : List ℕ} {i : ℕ} {now : Held} (g : Going held replies i now) where
   -- all agreed
-  pub all-agreed : length replies ≤ i → Holds file held replies (held_of run place)
+  pub all-agreed : length replies ≤ i → Holds held replies (Ok now)
   all-agreed h = record { is_held = g.is_held; verdict = λ more. g.verdict more ∙ rw (drop_of_length-le replies h) refl }
 
-  abbrev over : Held
-  over = record { run = run; place = place; same = false }
-
-  module _ (there : i < length replies) where
+  module _ (there : i < length replies) (byte : ℕ) (is : byte ≡ get_or replies i 0) where
     -- the next reply
-    next : (more : List ℕ) → drop i replies ++ more ≡ get_or replies i 0 ∷ (drop (suc i) replies ++ more)
-    next more = rw (drop-cons replies i 0 there) refl
+    next : (more : List ℕ) → drop i replies ++ more ≡ byte ∷ (drop (suc i) replies ++ more)
+    next more = rw (drop-cons replies i 0 there, is) refl
 
     -- it is not what is recorded next
-    pub other_byte : is_next (get_or replies i 0) (left_in device_kind file run) ≡ false → Holds file held replies over
+    pub other_byte : is_next byte (left_in now.run) ≡ false → Holds held replies (Err now.place)
     other_byte e =
         record {
-          is_held = record { is_run = g.is_held.is_run; counted = g.is_held.counted };
-          verdict = λ more. g.verdict more ∙ rw (next more) (differs-here place (left_in device_kind file run) (get_or replies i 0) (drop (suc i) replies ++ more) e);
+          is_held = tt;
+          verdict = λ more. g.verdict more ∙ rw (next more) (differs-here now.place (left_in now.run) byte (drop (suc i) replies ++ more) e);
         }
 
     -- it is
-    module _ (e : is_next (get_or replies i 0) (left_in device_kind file run) ≡ true) where
-      pub one-there : run.at + 1 ≤ run.past
+    module _ (e : is_next byte (left_in now.run) ≡ true) where
+      pub one-there : 1 ≤ length now.run.bytes.now
       one-there =
-          cases (ltb run.at run.past) (λ t. let some : run.at < run.past = ltb-true _ _ t in omega (arith, some))
-          (λ f. absurd (never-next (get_or replies i 0) (sym (ap (is_next (get_or replies i 0)) (none_left device_kind file run g.is_held.is_run (ltb-false _ _ f))) ∙ e)))
+          cases (ltb 0 (length now.run.bytes.now)) (λ t. ltb-true _ _ t)
+          (λ f.
+          let none = none_left now.run g.is_held.is_run (empty now.run.bytes.now (ltb-false _ _ f)) in
+          absurd (never-next byte (sym (ap (is_next byte) none) ∙ e)))
 
-      pub same_byte : (run' : Run) → Leaves device_kind file (run.at + 1) (drop 1 (left_in device_kind file run)) run' → Going file held replies (i + 1) run' (place + 1)
-      same_byte run' l =
+      some-left : 1 ≤ length (left_in now.run)
+      some-left = omega (arith, one-there, ap length (first-left now.run one-there))
+
+      pub place-fits : now.place + 1 < 2 ^ 64
+      place-fits = omega (arith, some-left, g.is_held.counted)
+
+      pub same_byte : (run : Run) → Leaves now.run.kind (drop 1 (left_in now.run)) run → Going held replies (i + 1) (held_of run (now.place + 1))
+      same_byte run l =
           record {
-            is_held = record { is_run = l.is_run; counted = omega (arith, g.is_held.counted, l.further) };
+            is_held = record {
+              is_run = l.is_run;
+              of_device = l.same_kind ∙ g.is_held.of_device;
+              counted = omega (arith, ap length l.left_is, length-drop 1 (left_in now.run), some-left, g.is_held.counted);
+            };
             verdict = λ more.
                 g.verdict more
-                ∙ ap (compared_from place (left_in device_kind file run)) (next more)
-                ∙ agrees-here place (left_in device_kind file run) (get_or replies i 0) (drop (suc i) replies ++ more) e
-                ∙ rw (← l.left_is, ← add-one i, ← add-one place) refl;
+                ∙ ap (compared_from now.place (left_in now.run)) (next more)
+                ∙ agrees-here now.place (left_in now.run) byte (drop (suc i) replies ++ more) e
+                ∙ rw (← l.left_is, ← add-one i, ← add-one now.place) refl;
           }
 
 -- the answer where no more replies come
-module _ (file : List ℕ) (held : Held) (h : IsHeld file held) where
-  pub answer-known : held.same ≡ false → answer_of (verdict_of file held []) ≡ record { number = 0; equal = 0; place = held.place }
-  answer-known e = rw e refl
+module _ (held : Held) (h : IsHeld held) where
+  pub answer-equal : length held.run.bytes.now ≤ 0 → answer_of (verdict_of (Ok held) []) ≡ record { number = 0; equal = 1; place = 0 }
+  answer-equal none = rw (none_left held.run h.is_run (empty held.run.bytes.now none)) refl
 
-  pub answer-equal : held.same ≡ true → held.run.at ≡ held.run.past → answer_of (verdict_of file held []) ≡ record { number = 0; equal = 1; place = 0 }
-  answer-equal e q = rw (e, none_left device_kind file held.run h.is_run (omega arith)) refl
-
-  pub answer-more : held.same ≡ true → (held.run.at ≡ held.run.past → ⊥) → answer_of (verdict_of file held []) ≡ record { number = 0; equal = 0; place = held.place }
-  answer-more e n =
-      let some : held.run.at < held.run.past = omega (arith, h.is_run.order, n) in
-      rw e (ap (λ left. answer_of (compared_from held.place left [])) (first-left device_kind file held.run h.is_run some))
-
--- a byte held to the next of a run
-module _ (file : List ℕ) (run : Run) (is : IsRun file run) (byte : ℕ) where
-  pub next-none : run.past ≤ run.at → false ≡ is_next byte (left_in device_kind file run)
-  next-none h = sym (ap (is_next byte) (none_left device_kind file run is h))
-
-  pub next-some : run.at < run.past → eqb (get_or file run.at 0) byte ≡ is_next byte (left_in device_kind file run)
-  next-some h = sym (ap (is_next byte) (first-left device_kind file run is h))
+  pub answer-more : 0 < length held.run.bytes.now → answer_of (verdict_of (Ok held) []) ≡ record { number = 0; equal = 0; place = held.place }
+  answer-more some = ap (λ left. answer_of (compared_from held.place left [])) (first-left held.run some)

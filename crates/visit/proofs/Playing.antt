@@ -1,16 +1,18 @@
 -- A recording played call by call: what is still to come, and what the comparison makes of it.
 -- Assumes nothing.
-use Prim.Native.Nat.{ℕ, ◌+◌, ◌-◌, ◌≤◌, ◌<◌}
+use Prim.Native.Nat.{ℕ, ◌+◌, ◌-◌, ◌^◌, ◌≤◌, ◌<◌}
 use native.Mathlib.Omega.{arith}
 use mathlib.Core.Path.{◌≡◌, refl, sym, ap, subst, ◌∙◌}
 use mathlib.Core.List.{List, [], ◌++◌}
 use lib.Dec.{ltb}
-use lib.ListN.{length, take, drop, length-append}
+use lib.ListN.{length, take, drop, length-append, length-drop}
 use lib.Seq.{length-take-le, drop-nil}
 use borrow.Author.Tests.{ltb-true, ltb-false}
 use borrow.Table.Steps.{cases}
+use Rattle.std.specs.Prelude.{Result, Ok, IfOk}
 use Rattle.memory.specs.Memories.{Memories, memories, SameLengths}
-use Rattle.machine.specs.Session.{Result, result_of}
+use Rattle.machine.specs.Session as machine
+use Rattle.machine.specs.Session.{result_of}
 use Rattle.machine.specs.Listing.{Given}
 use Rattle.machine.specs.declared.Record.{Record}
 use Rattle.machine.specs.Session.{Report}
@@ -22,8 +24,10 @@ use Rattle.sessions.specs.Onward.{Reached, fresh, called, nothing, onward, Call}
 use Rattle.sessions.proofs.Onward.{piece-by-piece}
 use Rattle.recording.specs.Form.{host_kind, device_kind, head_length}
 use Rattle.recording.specs.Left.{left_from, left_in, IsRun, Leaves}
+use Rattle.recording.specs.declared.form.Kind.TheVariants.{Host, Device}
 use Rattle.recording.specs.declared.run.Run.{Run}
-use Rattle.recording.proofs.Runs.{first-left, none_left, run-shown, run_long}
+use Rattle.recording.proofs.Entries.{joined-short}
+use Rattle.recording.proofs.Runs.{empty, first-left, none_left, run-shown}
 use Rattle.visit.specs.Compared.{compared_from, compared}
 use Rattle.visit.specs.Held.{verdict_of, IsHeld, Holds}
 use Rattle.visit.specs.Played.{Playable, Played}
@@ -31,119 +35,128 @@ use Rattle.visit.specs.declared.held.Held.{Held}
 use Rattle.visit.proofs.Holding.{held_of}
 
 -- the replies that are still to come
-abbrev pub to_come : (file : List ℕ) → Record → Memories → (host : Run) → List ℕ
-to_come file session mem host = (onward device.uartboot session mem (left_in host_kind file host)).replies
+abbrev pub to_come : Record → Memories → (host : Run) → List ℕ
+to_come session mem host = (onward device.uartboot session mem (left_in host)).replies
 
 -- falls with every call
-abbrev pub effort : (file : List ℕ) → Record → Memories → (host : Run) → ℕ
-effort file session mem host = length (to_come file session mem host) + (length file - host.at)
+abbrev pub effort : Record → Memories → (host : Run) → ℕ
+effort session mem host = length (to_come session mem host) + length (left_in host)
 
-pub record Playing (file : List ℕ) (m₀ : Memories) (session : Record) (mem : Memories) (host : Run) (held : Held) (room : List ℕ) : Type 0 where
+-- what the definition gives for a file
+abbrev pub given_for : (file : List ℕ) → Memories → Given Memories
+given_for file m₀ = definition uartboot m₀ (left_from host_kind (drop head_length file))
+
+abbrev pub recorded : (file : List ℕ) → List ℕ
+recorded file = left_from device_kind (drop head_length file)
+
+pub record Playing (file : List ℕ) (m₀ : Memories) (session : Record) (mem : Memories) (host : Run) (held : Result Held ℕ) (room : List ℕ) : Type 0 where
   pub reached : Reached uartboot session mem
   pub same : SameLengths mem m₀
-  pub is-host : IsRun file host
-  pub is_held : IsHeld file held
+  pub is-host : IsRun host
+  pub is_held : IfOk held IsHeld
   pub long : length room ≡ 1024
-  pub verdict : compared (left_from device_kind file head_length) (definition uartboot m₀ (left_from host_kind file head_length)).replies
-      ≡ verdict_of file held (to_come file session mem host)
-  pub memories_are : (onward device.uartboot session mem (left_in host_kind file host)).memories ≡ (definition uartboot m₀ (left_from host_kind file head_length)).memories
+  pub verdict : compared (recorded file) (given_for file m₀).replies ≡ verdict_of held (to_come session mem host)
+  pub memories_are : (onward device.uartboot session mem (left_in host)).memories ≡ (given_for file m₀).memories
 
 -- before the first call
 pub begins : (file : List ℕ) (m₀ : Memories) (session : Record) (host run : Run) (room : List ℕ) → Playable file m₀ → session ≡ fresh_record →
-    Leaves host_kind file head_length (left_from host_kind file head_length) host →
-    Leaves device_kind file head_length (left_from device_kind file head_length) run →
-    length room ≡ 1024 → Playing file m₀ session m₀ host (held_of run 0) room
+    (entries : List ℕ) → entries ≡ drop head_length file →
+    Leaves Host (left_from host_kind entries) host →
+    Leaves Device (left_from device_kind entries) run →
+    length room ≡ 1024 → length file < 2 ^ 64 → Playing file m₀ session m₀ host (Ok (held_of run 0)) room
 unfolding compared
-begins file m₀ session host run room p e h d long =
-    let starts = (piece-by-piece uartboot).starts m₀ (left_from host_kind file head_length) p.fits in
-    let still : onward device.uartboot session m₀ (left_in host_kind file host) ≡ definition uartboot m₀ (left_from host_kind file head_length) =
-    ap (λ r. onward device.uartboot r m₀ (left_in host_kind file host)) e ∙ ap (λ stream. onward device.uartboot fresh_record m₀ stream) h.left_is ∙ starts in
+begins file m₀ session host run room p e entries all h₀ d₀ long fits =
+    let h : Leaves Host (left_from host_kind (drop head_length file)) host = rw all at h₀ in
+    let d : Leaves Device (recorded file) run = rw all at d₀ in
+    let starts = (piece-by-piece uartboot).starts m₀ (left_from host_kind (drop head_length file)) p.fits in
+    let still : onward device.uartboot session m₀ (left_in host) ≡ given_for file m₀ =
+    ap (λ r. onward device.uartboot r m₀ (left_in host)) e ∙ ap (λ stream. onward device.uartboot fresh_record m₀ stream) h.left_is ∙ starts in
     record {
       reached = rw e (fresh p.fits);
       same = record { same_ram = refl; same_flash = refl; same_work = refl };
       is-host = h.is_run;
-      is_held = record { is_run = d.is_run; counted = omega arith };
+      is_held = record {
+        is_run = d.is_run;
+        of_device = d.same_kind;
+        counted = omega (arith, ap length d.left_is, joined-short device_kind (drop head_length file), length-drop head_length file, fits);
+      };
       long = long;
       verdict =
-          ap (λ (d : Given Memories). compared (left_from device_kind file head_length) d.replies) (sym still)
-          ∙ ap (λ left. compared_from 0 left (to_come file session m₀ host)) (sym d.left_is);
+          ap (λ (d : Given Memories). compared (recorded file) d.replies) (sym still)
+          ∙ ap (λ left. compared_from 0 left (to_come session m₀ host)) (sym d.left_is);
       memories_are = ap (λ (d : Given Memories). d.memories) still;
     }
 
 -- a call that is shown the run
-module _ {file : List ℕ} {m₀ : Memories} {session : Record} {mem : Memories} {host : Run} {held : Held} {room : List ℕ}
+module _ {file : List ℕ} {m₀ : Memories} {session : Record} {mem : Memories} {host : Run} {held : Result Held ℕ} {room : List ℕ}
     (g : Playing file m₀ session mem host held room)
-    (a : Result Memories) (is : a ≡ result_of device.uartboot session mem (take (host.past - host.at) (drop host.at file)) room)
+    (a : machine.Result Memories) (is : a ≡ result_of device.uartboot session mem host.bytes.now room)
     (long : length a.reply ≡ length room) where
-  by-definition : result_of device.uartboot session mem (take (host.past - host.at) (left_in host_kind file host)) room ≡ a
-  by-definition = rw (run-shown host_kind file host g.is-host) (sym is)
+  by-definition : result_of device.uartboot session mem (take (length host.bytes.now) (left_in host)) room ≡ a
+  by-definition = rw (run-shown host) (sym is)
 
   -- cuts never matter: it is one of the calls that demand 3 speaks of
-  one-call : Call uartboot session mem (left_in host_kind file host) (host.past - host.at) room a
-  one-call = rw by-definition at ((piece-by-piece uartboot).calls session mem g.reached (left_in host_kind file host) (host.past - host.at) room)
-
-  size : length (take (host.past - host.at) (left_in host_kind file host)) ≡ host.past - host.at
-  size = ap length (run-shown host_kind file host g.is-host) ∙ run_long file host g.is-host
+  one-call : Call uartboot session mem (left_in host) (length host.bytes.now) room a
+  one-call = rw by-definition at ((piece-by-piece uartboot).calls session mem g.reached (left_in host) (length host.bytes.now) room)
 
   pub sent-fits : a.report.sent ≤ length a.reply
   sent-fits = omega (arith, one-call.sent_within, long)
 
-  pub taken-fits : host.at + a.report.taken ≤ host.past
-  taken-fits = omega (arith, one-call.taken_within, size, g.is-host.order)
+  pub taken-fits : a.report.taken ≤ length host.bytes.now
+  taken-fits = omega (arith, one-call.taken_within, ap length (run-shown host))
 
 -- what the call gave, and what was then done
-pub record Turn (file : List ℕ) (m₀ : Memories) (session : Record) (mem : Memories) (host : Run) (held : Held) (room : List ℕ) (a : Result Memories) (held' : Held) (host' : Run) : Type 0 where
+pub record Turn (file : List ℕ) (m₀ : Memories) (session : Record) (mem : Memories) (host : Run) (held : Result Held ℕ) (room : List ℕ) (a : machine.Result Memories) (held' : Result Held ℕ) (host' : Run) : Type 0 where
   pub going : Playing file m₀ session mem host held room
-  pub is : a ≡ result_of device.uartboot session mem (take (host.past - host.at) (drop host.at file)) room
-  pub holds : Holds file held (take a.report.sent a.reply) held'
-  pub leaves : Leaves host_kind file (host.at + a.report.taken) (drop a.report.taken (left_in host_kind file host)) host'
+  pub is : a ≡ result_of device.uartboot session mem host.bytes.now room
+  pub holds : Holds held (take a.report.sent a.reply) held'
+  pub leaves : Leaves host.kind (drop a.report.taken (left_in host)) host'
   pub keeps : SameLengths a.memories mem
   pub long : length a.reply ≡ length room
-
 -- from what the program's calls say of their values
-pub turned : {file : List ℕ} {m₀ : Memories} {session : Record} {mem : Memories} {host : Run} {held : Held} {room : List ℕ}
+pub turned : {file : List ℕ} {m₀ : Memories} {session : Record} {mem : Memories} {host : Run} {held : Result Held ℕ} {room : List ℕ}
     → Playing file m₀ session mem host held room
     → (report : Report) (reply ram flash work : List ℕ)
-    → record { report = report; reply = reply; memories = memories ram flash work } ≡ result_of device.uartboot session mem (take (host.past - host.at) (drop host.at file)) room
-    → (held' : Held) → Holds file held (take report.sent reply) held'
-    → (host' : Run) → Leaves host_kind file (host.at + report.taken) (drop report.taken (left_in host_kind file host)) host'
+    → record { report = report; reply = reply; memories = memories ram flash work } ≡ result_of device.uartboot session mem host.bytes.now room
+    → (held' : Result Held ℕ) → Holds held (take report.sent reply) held'
+    → (host' : Run) → Leaves host.kind (drop report.taken (left_in host)) host'
     → length ram ≡ length mem.ram → length flash ≡ length mem.flash → length work ≡ length mem.work → length reply ≡ length room
     → Turn file m₀ session mem host held room (record { report = report; reply = reply; memories = memories ram flash work }) held' host'
 turned p report reply ram flash work is held' holds host' leaves same_ram same_flash same_work long =
     record { going = p; is = is; holds = holds; leaves = leaves; keeps = record { same_ram = same_ram; same_flash = same_flash; same_work = same_work }; long = long }
 
-module _ {file : List ℕ} {m₀ : Memories} {session : Record} {mem : Memories} {host : Run} {held : Held} {room : List ℕ} {a : Result Memories} {held' : Held} {host' : Run}
+module _ {file : List ℕ} {m₀ : Memories} {session : Record} {mem : Memories} {host : Run} {held : Result Held ℕ} {room : List ℕ} {a : machine.Result Memories} {held' : Result Held ℕ} {host' : Run}
     (t : Turn file m₀ session mem host held room a held' host') where
   abbrev g : Playing file m₀ session mem host held room
   g = t.going
 
-  abbrev h : Holds file held (take a.report.sent a.reply) held'
+  abbrev h : Holds held (take a.report.sent a.reply) held'
   h = t.holds
 
-  abbrev l : Leaves host_kind file (host.at + a.report.taken) (drop a.report.taken (left_in host_kind file host)) host'
+  abbrev l : Leaves host.kind (drop a.report.taken (left_in host)) host'
   l = t.leaves
 
   abbrev stream : List ℕ
-  stream = left_in host_kind file host
+  stream = left_in host
 
-  called-so : Call uartboot session mem stream (host.past - host.at) room a
+  called-so : Call uartboot session mem stream (length host.bytes.now) room a
   called-so = one-call g a t.is t.long
 
   after : onward device.uartboot a.report.session a.memories (drop a.report.taken stream)
-      ≡ onward device.uartboot a.report.session a.memories (left_in host_kind file host')
+      ≡ onward device.uartboot a.report.session a.memories (left_in host')
   after = ap (λ left. onward device.uartboot a.report.session a.memories left) (sym l.left_is)
 
-  replies-are : to_come file session mem host ≡ take a.report.sent a.reply ++ to_come file a.report.session a.memories host'
+  replies-are : to_come session mem host ≡ take a.report.sent a.reply ++ to_come a.report.session a.memories host'
   replies-are =
       ap (λ (d : Given Memories). d.replies) called-so.goes_on
       ∙ ap (λ (d : Given Memories). take a.report.sent a.reply ++ d.replies) after
 
-  verdict-after : compared (left_from device_kind file head_length) (definition uartboot m₀ (left_from host_kind file head_length)).replies
-      ≡ verdict_of file held' (to_come file a.report.session a.memories host')
-  verdict-after = g.verdict ∙ ap (verdict_of file held) replies-are ∙ h.verdict (to_come file a.report.session a.memories host')
+  verdict-after : compared (recorded file) (given_for file m₀).replies
+      ≡ verdict_of held' (to_come a.report.session a.memories host')
+  verdict-after = g.verdict ∙ ap (verdict_of held) replies-are ∙ h.verdict (to_come a.report.session a.memories host')
 
-  memories-after : (onward device.uartboot a.report.session a.memories (left_in host_kind file host')).memories
-      ≡ (definition uartboot m₀ (left_from host_kind file head_length)).memories
+  memories-after : (onward device.uartboot a.report.session a.memories (left_in host')).memories
+      ≡ (given_for file m₀).memories
   memories-after =
       ap (λ (d : Given Memories). d.memories) (sym after)
       ∙ ap (λ (d : Given Memories). d.memories) (sym called-so.goes_on)
@@ -151,8 +164,8 @@ module _ {file : List ℕ} {m₀ : Memories} {session : Record} {mem : Memories}
 
   reached-after : Reached uartboot a.report.session a.memories
   reached-after =
-      subst (λ (x : Result Memories). Reached uartboot x.report.session x.memories) (sym t.is)
-      (called g.reached (take (host.past - host.at) (drop host.at file)) room)
+      subst (λ (x : machine.Result Memories). Reached uartboot x.report.session x.memories) (sym t.is)
+      (called g.reached host.bytes.now room)
 
   pub goes_on : Playing file m₀ a.report.session a.memories host' held' a.reply
   goes_on =
@@ -171,47 +184,52 @@ module _ {file : List ℕ} {m₀ : Memories} {session : Record} {mem : Memories}
       }
 
   -- nothing is still to come
-  ended : onward device.uartboot a.report.session a.memories (left_in host_kind file host') ≡ nothing a.report.session a.memories →
+  ended : onward device.uartboot a.report.session a.memories (left_in host') ≡ nothing a.report.session a.memories →
       Played file m₀ held' a.memories
   ended none =
       record {
         is_held = h.is_held;
-        verdict = verdict-after ∙ ap (λ (d : Given Memories). verdict_of file held' d.replies) none;
+        verdict = verdict-after ∙ ap (λ (d : Given Memories). verdict_of held' d.replies) none;
         memories_are = sym (sym memories-after ∙ ap (λ (d : Given Memories). d.memories) none);
       }
 
   pub code_runs : a.report.standing ≡ 3 → Played file m₀ held' a.memories
-  code_runs e = ended (called-so.runs (left_in host_kind file host') e)
+  code_runs e = ended (called-so.runs (left_in host') e)
 
-  pub all-played : a.report.standing ≡ 1 → host'.past ≤ host'.at → Played file m₀ held' a.memories
+  pub all-played : a.report.standing ≡ 1 → length host'.bytes.now ≤ 0 → Played file m₀ held' a.memories
   all-played e none =
-      ended (ap (λ left. onward device.uartboot a.report.session a.memories left) (none_left host_kind file host' l.is_run none) ∙ (called-so.waits e).1)
+      let over = none_left host' l.is_run (empty host'.bytes.now none) in
+      ended (ap (λ left. onward device.uartboot a.report.session a.memories left) over ∙ (called-so.waits e).1)
 
   -- the work that is left
-  count : length (to_come file session mem host) ≡ a.report.sent + length (to_come file a.report.session a.memories host')
+  count : length (to_come session mem host) ≡ a.report.sent + length (to_come a.report.session a.memories host')
   count =
       let sent : length (take a.report.sent a.reply) ≡ a.report.sent = length-take-le a.report.sent a.reply (sent-fits g a t.is t.long) in
-      ap length replies-are ∙ length-append (take a.report.sent a.reply) (to_come file a.report.session a.memories host')
-      ∙ ap (λ n. n + length (to_come file a.report.session a.memories host')) sent
+      ap length replies-are ∙ length-append (take a.report.sent a.reply) (to_come a.report.session a.memories host')
+      ∙ ap (λ n. n + length (to_come a.report.session a.memories host')) sent
+
+  less : length (left_in host') ≡ length (left_in host) - a.report.taken
+  less = ap length l.left_is ∙ length-drop a.report.taken (left_in host)
 
   pub room-less : (a.report.standing ≡ 1 → ⊥) → (a.report.standing ≡ 3 → ⊥) →
-      effort file a.report.session a.memories host' < effort file session mem host
+      effort a.report.session a.memories host' < effort session mem host
   room-less n m =
       let choked : a.report.standing ≡ 2 = omega (arith, called-so.stands, n, m) in
-      omega (arith, count, called-so.full choked, g.long, l.further, l.is_run.order, l.is_run.readable.inside)
+      omega (arith, count, called-so.full choked, g.long, less)
 
-  pub taken-less : a.report.standing ≡ 1 → host'.at < host'.past → effort file a.report.session a.memories host' < effort file session mem host
+  pub taken-less : a.report.standing ≡ 1 → 0 < length host'.bytes.now → effort a.report.session a.memories host' < effort session mem host
   taken-less e some =
-      omega (arith, count, l.further, l.is_run.order, l.is_run.readable.inside, taken, nonempty)
+      omega (arith, count, less, taken, left-some, nonempty)
     where
-      taken : a.report.taken ≡ host.past - host.at
-      taken = (called-so.waits e).0 ∙ size g a t.is t.long
+      taken : a.report.taken ≡ length host.bytes.now
+      taken = (called-so.waits e).0 ∙ ap length (run-shown host)
 
-      nonempty : host.at < host.past
+      left-some : 0 < length (left_in host')
+      left-some = omega (arith, ap length (first-left host' some))
+
+      nonempty : 0 < length host.bytes.now
       nonempty =
-          cases (ltb host.at host.past) (λ t. ltb-true _ _ t)
+          cases (ltb 0 (length host.bytes.now)) (λ t. ltb-true _ _ t)
           (λ f.
-          let none : left_in host_kind file host' ≡ [] =
-          l.left_is ∙ ap (drop a.report.taken) (none_left host_kind file host g.is-host (ltb-false _ _ f)) ∙ drop-nil a.report.taken in
-          let size = ap length (sym (first-left host_kind file host' l.is_run some) ∙ none) in
-          absurd (let z : ⊥ = omega (arith, size) in z))
+          let none = none_left host g.is-host (empty host.bytes.now (ltb-false _ _ f)) in
+          absurd (let z : ⊥ = omega (arith, less, left-some, ap length none) in z))

@@ -8,7 +8,7 @@ ghost use Rattle.visit.specs.Replay.{refused_answer, replayed, replay_of};
 
 use crate::held::Held;
 use crate::play::play;
-use recording::form::fault_of;
+use recording::form::check;
 use uartboot::session::refusal;
 
 pub mod held;
@@ -27,29 +27,31 @@ fn refused(number: u32) -> Replayed
     ensures { result ≡ refused_answer number }
 {
     Replayed {
-        number: number,
+        number,
         equal: 0,
         place: 0,
     }
 }
 
 // The answer, once no more replies come.
-fn answer(held: Held) -> Replayed
-    ensures { Answers held result }
+fn answer<'a>(held: Result<Held<'a>, usize>) -> Replayed
+    ensures { Answers held.entry result }
 {
-    if held.same {
-        if held.run.at == held.run.past {
+    let place = match held {
+        Ok(held) if held.run.bytes.is_empty() => {
             return Replayed {
                 number: 0,
                 equal: 1,
                 place: 0,
             };
         }
-    }
+        Ok(held) => held.place,
+        Err(place) => place,
+    };
     Replayed {
         number: 0,
         equal: 0,
-        place: held.place,
+        place,
     }
 }
 
@@ -61,9 +63,8 @@ pub fn replay(recording: &[u8], ram: &mut [u8], flash: &mut [u8], work: &mut [u8
     if number != 0 {
         return refused(number);
     }
-    let fault = fault_of(recording);
-    if fault != 0 {
-        return refused(fault);
+    if let Err(fault) = check(recording) {
+        return refused(u32::from(fault));
     }
     answer(play(recording, ram, flash, work))
 }

@@ -4,8 +4,8 @@ ghost use Rattle.memory.specs.Memories.{memories};
 ghost use Rattle.visit.specs.Played.{Playable, Played};
 
 use crate::held::{Held, hold};
-use recording::form::{DEVICE, HEAD, HOST};
-use recording::run::{find, go_on};
+use recording::form::{HEAD, Kind};
+use recording::run::Run;
 use uartboot::session::call;
 use uartboot_flow::kind::Uartboot;
 
@@ -18,33 +18,33 @@ const RUNS: u32 = 3;
 const ROOM: usize = 1_024;
 
 // Plays a recording to its end, or until code runs.
-pub fn play(file: &[u8], ram: &mut [u8], flash: &mut [u8], work: &mut [u8]) -> Held
+pub fn play<'a>(
+    file: &'a [u8],
+    ram: &mut [u8],
+    flash: &mut [u8],
+    work: &mut [u8],
+) -> Result<Held<'a>, usize>
     requires { Playable file.now (memories ram.old flash.old work.old) }
     ensures { Played file.now (memories ram.old flash.old work.old) result (memories ram.new flash.new work.new) }
 {
+    let entries = &file[HEAD..];
     let mut room = [0u8; ROOM];
     let mut session = Uartboot::fresh();
-    let mut host = find(file, HOST, HEAD);
-    let mut held = Held {
-        run: find(file, DEVICE, HEAD),
+    let mut host = Run::first(Kind::Host, entries);
+    let mut held = Ok(Held {
+        run: Run::first(Kind::Device, entries),
         place: 0,
-        same: true,
-    };
+    });
     loop {
-        let at = host.at;
-        let past = host.past;
-        let report = call(session, &file[at..past], &mut room, ram, flash, work);
-        let sent = report.sent;
+        let report = call(session, host.bytes, &mut room, ram, flash, work);
         session = report.session;
-        held = hold(file, held, &room[..sent]);
-        host = go_on(file, HOST, host, report.taken);
+        held = hold(held, &room[..report.sent]);
+        host = host.past(report.taken);
         if report.standing == RUNS {
             return held;
         }
-        if report.standing == WAITS {
-            if host.at >= host.past {
-                return held;
-            }
+        if report.standing == WAITS && host.bytes.is_empty() {
+            return held;
         }
     }
 }

@@ -2,10 +2,11 @@
 -- Assumes nothing.
 use Rattle.memory.specs.Memories.{memories}
 use Rattle.uartboot.specs.Session.{uartboot}
+use Rattle.machine.specs.Told.{refusal_number}
 use Rattle.called.proofs.Boundary.{handed-back}
 use Rattle.capi_uartboot.proofs.und_uartboot_call.Goals as goal
 
 pub returns : goal.returns
 returns c =
-    handed-back uartboot c.args.words.now (memories c.args.ram.now c.args.flash.now c.args.work.now) c.args.input.now c.args.reply.now
-    _ c.from-session.ensures _ _ _ c.call-report.ensures _ _ (c.hand_back.ensures.value, c.hand_back.ensures.words_after)
+    handed-back uartboot refusal_number c.args.words.now (memories c.args.ram.now c.args.flash.now c.args.work.now) c.args.input.now c.args.reply.now
+    _ c.from-session.ensures _ _ _ c.call-outcome.ensures _ c.map_err.ensures.cases _ _ (c.hand_back.ensures.value, c.hand_back.ensures.words_after)

@@ -1,14 +1,18 @@
 -- `visit::answer`: by what is left.
 -- Assumes nothing.
-use mathlib.Core.Path.{sym}
-use Rattle.visit.proofs.Holding.{answer-known, answer-equal, answer-more}
+use Rattle.std.proofs.Common.{ℕ, ◌<◌, ◌≤◌, length, arith, sym}
+use Rattle.std.proofs.lemmas.Bool.Decides.{nat_tests}
+use Rattle.std.proofs.lemmas.Result.{IfOk-at_ok}
+use Rattle.visit.specs.Held.{IsHeld}
+use Rattle.visit.proofs.Holding.{answer-equal, answer-more}
 use Rattle.visit.proofs.answer.Goals as goal
 
-pub returns-then-held-2 : goal.returns-then-held-2
-returns-then-held-2 c = λ file h. sym (answer-equal file c.args.held h c.if-held.true c.if-held-2.true)
+pub returns-in-Ok : goal.returns-in-Ok
+returns-in-Ok c = λ h.
+    let none : length c.in-Ok.held.run.bytes.now ≤ 0 = grind (arith, nat_tests) in
+    rw c.in-Ok.is (sym (answer-equal c.in-Ok.held (IfOk-at_ok IsHeld c.in-Ok.is h) none))
 
-pub returns-else-held-2 : goal.returns-else-held-2
-returns-else-held-2 c = λ file h. sym (answer-more file c.args.held h c.if-held.true c.if-held-2.false)
-
-pub returns-else-held : goal.returns-else-held
-returns-else-held c = λ file h. sym (answer-known file c.args.held h c.if-held.false)
+pub returns-in-Ok-2 : goal.returns-in-Ok-2
+returns-in-Ok-2 c = λ h.
+    let some : 0 < length c.in-Ok-2.held.run.bytes.now = grind (arith, nat_tests) in
+    rw c.in-Ok-2.is (sym (answer-more c.in-Ok-2.held (IfOk-at_ok IsHeld c.in-Ok-2.is h) some))

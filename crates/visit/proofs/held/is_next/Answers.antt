@@ -1,12 +1,8 @@
--- `visit::held::is_next`: where the run is used up, and where it is not.
+-- `visit::held::is_next`: the first byte of the run, if it has any.
 -- Assumes nothing.
-use Rattle.visit.proofs.Holding.{next-none, next-some}
+use Rattle.std.proofs.Common.{◌∙◌}
+use Rattle.visit.proofs.Holding.{next-is}
 use Rattle.visit.proofs.held.is_next.Goals as goal
 
-pub returns-then-at-run : goal.returns-then-at-run
-returns-then-at-run c =
-    next-none c.args.file.now c.args.run c.requires c.args.byte c.if-at-run.true
-
 pub returns : goal.returns
-returns c =
-    next-some c.args.file.now c.args.run c.requires c.args.byte c.if-at-run.false
+returns c = c.eq.ensures ∙ next-is c.args.run c.requires c.first.result c.first.ensures.value _

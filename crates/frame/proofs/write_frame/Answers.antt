@@ -1,4 +1,4 @@
--- `frame::frame`: each refusal by the test that led there, else the frame as it was written.
+-- `frame::write_frame`: each refusal by the test that led there, else the frame as it was written.
 -- Assumes nothing.
 use Prim.Native.Nat.{◌+◌, ◌<◌, ◌≤◌}
 use mathlib.Core.Path.{◌≡◌}
@@ -7,13 +7,13 @@ use lib.ListN.{length}
 use borrow.Author.Tests.{lt-ltb, le-ltb, ne_eqb}
 use Rattle.frame.specs.Frame.{longest, frame_of, framed_of}
 use Rattle.frame.proofs.Frames.{longest-most, header-most, frame-length}
-use Rattle.frame.proofs.frame.Goals as goal
+use Rattle.frame.proofs.write_frame.Goals as goal
 
 pub returns-then-longest-count : goal.returns-then-longest-count
 unfolding framed_of
 returns-then-longest-count c =
     let long : longest c.args.kind < length c.args.code.now = omega (arith, c.longest.ensures, c.if-longest-count.true) in
-    simp (c.refused-then-longest-count.ensures, ne_eqb (length c.args.code.now) 0 (λ e. absurd (omega arith)), lt-ltb _ _ long)
+    simp (ne_eqb (length c.args.code.now) 0 (λ e. absurd (omega arith)), lt-ltb _ _ long)
 
 pub overflow_add-length : goal.overflow_add-length
 overflow_add-length c =
@@ -34,7 +34,7 @@ returns-then-out-length c =
     let whole : let a = c.args in
     c.header_length.result + length a.code.now + 1 ≡ length (frame_of a.kind a.code.now) = rw c.header_length.ensures (frame-length c.args.kind c.args.code.now) in
     let over : length c.args.out.now < length (frame_of c.args.kind c.args.code.now) = omega (arith, whole, c.if-out-length.true) in
-    simp (c.refused-then-out-length.ensures, ne_eqb (length c.args.code.now) 0 (λ e. absurd (omega arith)), le-ltb _ _ short, lt-ltb _ _ over)
+    simp (ne_eqb (length c.args.code.now) 0 (λ e. absurd (omega arith)), le-ltb _ _ short, lt-ltb _ _ over)
 
 pub put_frame-requires : goal.put_frame-requires
 put_frame-requires c =
