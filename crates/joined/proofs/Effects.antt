@@ -76,7 +76,7 @@ module _ (opcode : Opcode) (payload : List ℕ) (m : Memories) (ok : Passes opco
   passed = allowed _ _ _ _ ok.passes
 
   done : performed (command_of opcode (length payload) m'.work) m' ≡ effect opcode payload m
-  done = performs opcode (length payload) m' _ refl 0 (sym ok.passes) refl
+  done = sym (performs opcode (length payload) m' ok.passes)
 
   end_is : (performed (command_of opcode (length payload) m'.work) m').ending ≡ (effect opcode payload m).ending
   end_is = ap (λ (e : Executed). e.ending) done

@@ -56,13 +56,13 @@ use Rattle.joined.proofs.Effects.{Ends, answering, running, silently, Ended, end
 use Rattle.joined.proofs.Closings.{host-law, over-is, Whole, closed}
 
 -- what is known of a command that the host doesn't refuse
-pub record Some (opcode : Opcode) (payload answer : List ℕ) : Type 0 where
+pub record Known (opcode : Opcode) (payload answer : List ℕ) : Type 0 where
   pub has_length : has_length opcode (length payload) ≡ true
   pub small : length payload < 65536
   pub follows_is : (exchange (lent (opcode_number opcode) payload answer)).follows ≡ follows_command opcode payload
   pub has_room : awaited (lent (opcode_number opcode) payload answer) ≤ length answer
 
-pub known : (opcode : Opcode) (payload answer : List ℕ) → refusal_of (lent (opcode_number opcode) payload answer) ≡ 0 → Some opcode payload answer
+pub known : (opcode : Opcode) (payload answer : List ℕ) → refusal_of (lent (opcode_number opcode) payload answer) ≡ 0 → Known opcode payload answer
 unfolding exchange_of
 known opcode payload answer e =
     let f = fits (lent (opcode_number opcode) payload answer) e in
@@ -157,7 +157,7 @@ talk-as e talk = rw (← e) talk
 
 -- the whole line
 module _ (opcode : Opcode) (answer : List ℕ) (m : Memories) {used h left : List ℕ} {host-end : State} {device-end : device-state.State} where
-  pub whole : (payload : List ℕ) → Some opcode payload answer → Passes opcode payload m →
+  pub whole : (payload : List ℕ) → Known opcode payload answer → Passes opcode payload m →
       let c = lent (opcode_number opcode) payload answer in (f : Follows) → (exchange c).follows ≡ f →
       Tail opcode c f (effect opcode payload m) used h left host-end device-end → Whole c m (device_bytes payload used) (host_bytes opcode payload h) left host-end device-end 1
   whole [] k ok f is t =
@@ -206,7 +206,7 @@ joined_line opcode payload answer m e ok = go (ended opcode payload m ok.good)
     c : Lent
     c = lent (opcode_number opcode) payload answer
 
-    k : Some opcode payload answer
+    k : Known opcode payload answer
     k = known opcode payload answer e
 
     f : Follows

@@ -19,6 +19,7 @@ use Rattle.uartboot_record.specs.Record.{written, decoded_of}
 use Rattle.uartboot_record.proofs.Records.{decoded-sound, reads_back}
 use Rattle.uartboot.specs.Session.{uartboot}
 use Rattle.uartboot.proofs.Calls.{fitting, fitting-accepted}
+use Rattle.uartboot_flow.specs.declared.step.Step.{Step}
 
 starts : (m : Memories) → uartboot.write (fresh m) ≡ fresh_record
 unfolding written

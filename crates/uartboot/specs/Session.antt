@@ -8,6 +8,7 @@ use Rattle.memory.specs.Memories.{Memories}
 use Rattle.uartboot_flow.specs.State.{State, state}
 use Rattle.uartboot_flow.specs.Device.{device}
 use Rattle.uartboot_record.specs.Record.{written, decoded_of}
+use Rattle.uartboot_flow.specs.declared.step.Step.{Step}
 
 -- lengths are tested in this order
 unfoldable pub refusal_of : (ram flash work : ℕ) → ℕ
