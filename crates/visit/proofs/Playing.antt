@@ -105,6 +105,9 @@ module _ {file : List ℕ} {m₀ : Memories} {session : Record} {mem : Memories}
   pub taken-fits : a.report.taken ≤ length host.bytes.now
   taken-fits = omega (arith, one-call.taken_within, ap length (run-shown host))
 
+  pub never-refused : a.report.standing ≡ 0 → ⊥
+  never-refused e = omega (arith, one-call.stands, e)
+
 -- what the call gave, and what was then done
 pub record Turn (file : List ℕ) (m₀ : Memories) (session : Record) (mem : Memories) (host : Run) (held : Result Held ℕ) (room : List ℕ) (a : machine.Result Memories) (held' : Result Held ℕ) (host' : Run) : Type 0 where
   pub going : Playing file m₀ session mem host held room

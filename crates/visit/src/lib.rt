@@ -9,7 +9,7 @@ ghost use Rattle.visit.specs.Replay.{refused_answer, replayed, replay_of};
 use crate::held::Held;
 use crate::play::play;
 use recording::form::check;
-use uartboot::session::refusal;
+use uartboot::session::check_lengths;
 
 pub mod held;
 pub mod play;
@@ -59,9 +59,8 @@ fn answer<'a>(held: Result<Held<'a>, usize>) -> Replayed
 pub fn replay(recording: &[u8], ram: &mut [u8], flash: &mut [u8], work: &mut [u8]) -> Replayed
     ensures { replayed result (memories ram.new flash.new work.new) ≡ replay_of recording.now (memories ram.old flash.old work.old) }
 {
-    let number = refusal(ram.len(), flash.len(), work.len());
-    if number != 0 {
-        return refused(number);
+    if let Err(why) = check_lengths(ram.len(), flash.len(), work.len()) {
+        return refused(u32::from(why));
     }
     if let Err(fault) = check(recording) {
         return refused(u32::from(fault));

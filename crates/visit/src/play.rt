@@ -4,15 +4,11 @@ ghost use Rattle.memory.specs.Memories.{memories};
 ghost use Rattle.visit.specs.Played.{Playable, Played};
 
 use crate::held::{Held, hold};
+use machine::stop::Standing;
 use recording::form::{HEAD, Kind};
 use recording::run::Run;
 use uartboot::session::call;
 use uartboot_flow::kind::Uartboot;
-
-// A report's standing: the session waits for a byte, or code runs.
-const WAITS: u32 = 1;
-
-const RUNS: u32 = 3;
 
 // How many replies a call has room for.
 const ROOM: usize = 1_024;
@@ -36,15 +32,18 @@ pub fn play<'a>(
         place: 0,
     });
     loop {
-        let report = call(session, host.bytes, &mut room, ram, flash, work);
-        session = report.session;
-        held = hold(held, &room[..report.sent]);
-        host = host.past(report.taken);
-        if report.standing == RUNS {
-            return held;
-        }
-        if report.standing == WAITS && host.bytes.is_empty() {
-            return held;
+        // The lengths and each record are accepted.
+        let Ok(done) = call(session, host.bytes, &mut room, ram, flash, work) else {
+            unreachable!()
+        };
+        session = done.session;
+        held = hold(held, &room[..done.sent]);
+        host = host.past(done.taken);
+        match done.standing {
+            Standing::Ended => return held,
+            Standing::NeedsByte if host.bytes.is_empty() => return held,
+            Standing::NeedsByte => {}
+            Standing::NeedsRoom => {}
         }
     }
 }

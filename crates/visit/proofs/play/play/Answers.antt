@@ -1,61 +1,78 @@
 -- `visit::play::play`: what is still to come after a call is what was still to come before it, less what it gave.
 -- Assumes nothing.
-use Rattle.std.proofs.Common.{ℕ, ◌<◌, ◌≤◌, ◌^◌, length, arith, sym, refl}
+use Rattle.std.proofs.Common.{ℕ, ◌<◌, ◌≤◌, ◌^◌, length, arith, sym, refl, ap}
 use lib.Seq.{length-take-le}
 use Rattle.std.proofs.lemmas.List.{take_rest}
 use Rattle.std.proofs.lemmas.Bool.Decides.{nat_tests}
 use Rattle.memory.specs.Memories.{memories}
-use Rattle.visit.proofs.Playing.{begins, sent-fits, taken-fits, turned, goes_on, code_runs, all-played, room-less, taken-less}
+use Rattle.visit.proofs.Playing.{begins, sent-fits, taken-fits, never-refused, turned, goes_on, code_runs, all-played, room-less, taken-less}
+use Rattle.machine.specs.Stop.{standing_number}
+use Rattle.machine.specs.Told.{refusal_number, told}
+use Rattle.uartboot.specs.Session.{given_back}
+use Rattle.std.specs.Prelude.{Ok, Err}
 use Rattle.visit.proofs.play.play.Goals as goal
-use Rattle.visit.proofs.play.play.Goals.{else-report-eq-WAITS-via-then-report-eq-WAITS+else-is_empty, else-report-eq-WAITS-via-else-report-eq-WAITS}
 
-pub loop-host-init : goal.loop-host-init
-loop-host-init c =
+pub loop-done-init : goal.loop-done-init
+loop-done-init c =
     begins c.args.file.now (memories c.args.ram.now c.args.flash.now c.args.work.now) c.fresh-session.result c.first-host.result c.first.result _ c.requires c.fresh-session.ensures
     _ (take_rest c.args.file.now 5) c.first-host.ensures c.first.ensures refl (omega arith)
 
+pub unreachable-requires : goal.unreachable-requires
+unreachable-requires c =
+    let k = c.call in
+    never-refused c.loop-done.invariant (given_back c.loop-done.session (Err c.in_default.field-0) k.new.reply (memories k.new.ram k.new.flash k.new.work)) c.in_default.ensures k.auto.reply refl
+
 pub slice_bounds-room-end : goal.slice_bounds-room-end
 slice_bounds-room-end c =
-    let k = c.call-report in
-    sent-fits c.loop-host.invariant (record { report = k.result; reply = k.new.reply; memories = memories k.new.ram k.new.flash k.new.work }) k.ensures k.auto.reply
+    let k = c.call in
+    sent-fits c.loop-done.invariant (given_back c.loop-done.session (Ok c.in-Ok.done) k.new.reply (memories k.new.ram k.new.flash k.new.work)) c.in-Ok.ensures k.auto.reply
 
 pub slice_bounds-hold-end : goal.slice_bounds-hold-end
 slice_bounds-hold-end c =
-    let k = c.call-report in
-    let fits = sent-fits c.loop-host.invariant (record { report = k.result; reply = k.new.reply; memories = memories k.new.ram k.new.flash k.new.work }) k.ensures k.auto.reply in
+    let k = c.call in
+    let fits = sent-fits c.loop-done.invariant (given_back c.loop-done.session (Ok c.in-Ok.done) k.new.reply (memories k.new.ram k.new.flash k.new.work)) c.in-Ok.ensures k.auto.reply in
     sym (length-take-le _ _ fits)
 
 pub past-host-requires-clause-count_bound : goal.past-host-requires-clause-count_bound
 past-host-requires-clause-count_bound c =
-    let k = c.call-report in
-    taken-fits c.loop-host.invariant (record { report = k.result; reply = k.new.reply; memories = memories k.new.ram k.new.flash k.new.work }) k.ensures k.auto.reply
+    let k = c.call in
+    taken-fits c.loop-done.invariant (given_back c.loop-done.session (Ok c.in-Ok.done) k.new.reply (memories k.new.ram k.new.flash k.new.work)) c.in-Ok.ensures k.auto.reply
 
-pub returns-then-report-eq-RUNS : goal.returns-then-report-eq-RUNS
-returns-then-report-eq-RUNS c =
-    let k = c.call-report in
-    let turn = turned c.loop-host.invariant k.result k.new.reply k.new.ram k.new.flash k.new.work k.ensures _ c.hold-held.ensures _ c.past-host.ensures k.auto.ram k.auto.flash k.auto.work k.auto.reply in
-    code_runs turn c.if-report-eq-RUNS.true
+pub returns-in-Ended : goal.returns-in-Ended
+returns-in-Ended c =
+    let k = c.call in
+    let turn = turned c.loop-done.invariant (told refusal_number c.loop-done.session (Ok c.in-Ok.done)) k.new.reply k.new.ram k.new.flash k.new.work c.in-Ok.ensures _ c.hold-held.ensures _ c.past-host.ensures k.auto.ram k.auto.flash k.auto.work k.auto.reply in
+    code_runs turn (ap standing_number c.in-Ended.is)
 
-pub returns-then-is_empty : goal.returns-then-is_empty
-returns-then-is_empty c =
-    let k = c.call-report in
-    let turn = turned c.loop-host.invariant k.result k.new.reply k.new.ram k.new.flash k.new.work k.ensures _ c.hold-held.ensures _ c.past-host.ensures k.auto.ram k.auto.flash k.auto.work k.auto.reply in
+pub returns-in-NeedsByte : goal.returns-in-NeedsByte
+returns-in-NeedsByte c =
+    let k = c.call in
+    let turn = turned c.loop-done.invariant (told refusal_number c.loop-done.session (Ok c.in-Ok.done)) k.new.reply k.new.ram k.new.flash k.new.work c.in-Ok.ensures _ c.hold-held.ensures _ c.past-host.ensures k.auto.ram k.auto.flash k.auto.work k.auto.reply in
     let none : length c.past-host.result.bytes.now ≤ 0 = grind (arith, nat_tests) in
-    all-played turn c.if-report-eq-WAITS.true none
+    all-played turn (ap standing_number c.in-NeedsByte.is) none
 
-pub loop-host-preserved : goal.loop-host-preserved
-loop-host-preserved c =
-    let k = c.call-report in
-    let turn = turned c.loop-host.invariant k.result k.new.reply k.new.ram k.new.flash k.new.work k.ensures _ c.hold-held.ensures _ c.past-host.ensures k.auto.ram k.auto.flash k.auto.work k.auto.reply in
+pub loop-done-smaller-else-is_empty : goal.loop-done-smaller-else-is_empty
+loop-done-smaller-else-is_empty c =
+    let k = c.call in
+    let turn = turned c.loop-done.invariant (told refusal_number c.loop-done.session (Ok c.in-Ok.done)) k.new.reply k.new.ram k.new.flash k.new.work c.in-Ok.ensures _ c.hold-held.ensures _ c.past-host.ensures k.auto.ram k.auto.flash k.auto.work k.auto.reply in
+    let some : 0 < length c.past-host.result.bytes.now = grind (arith, nat_tests) in
+    taken-less turn (ap standing_number c.in-NeedsByte.is) some
+
+pub loop-done-preserved-else-is_empty : goal.loop-done-preserved-else-is_empty
+loop-done-preserved-else-is_empty c =
+    let k = c.call in
+    let turn = turned c.loop-done.invariant (told refusal_number c.loop-done.session (Ok c.in-Ok.done)) k.new.reply k.new.ram k.new.flash k.new.work c.in-Ok.ensures _ c.hold-held.ensures _ c.past-host.ensures k.auto.ram k.auto.flash k.auto.work k.auto.reply in
     goes_on turn
 
-pub loop-host-smaller : goal.loop-host-smaller
-loop-host-smaller c =
-    let k = c.call-report in
-    let turn = turned c.loop-host.invariant k.result k.new.reply k.new.ram k.new.flash k.new.work k.ensures _ c.hold-held.ensures _ c.past-host.ensures k.auto.ram k.auto.flash k.auto.work k.auto.reply in
-    elim c.else-report-eq-WAITS.branch [
-      else-report-eq-WAITS-via-then-report-eq-WAITS+else-is_empty w ↦
-        let some : 0 < length c.past-host.result.bytes.now = grind (arith, nat_tests) in
-        taken-less turn w.if-report-eq-WAITS.true some
-    | else-report-eq-WAITS-via-else-report-eq-WAITS w ↦ room-less turn w.if-report-eq-WAITS.false c.if-report-eq-RUNS.false
-    ]
+pub loop-done-smaller : goal.loop-done-smaller
+loop-done-smaller c =
+    let k = c.call in
+    let turn = turned c.loop-done.invariant (told refusal_number c.loop-done.session (Ok c.in-Ok.done)) k.new.reply k.new.ram k.new.flash k.new.work c.in-Ok.ensures _ c.hold-held.ensures _ c.past-host.ensures k.auto.ram k.auto.flash k.auto.work k.auto.reply in
+    let choked = ap standing_number c.in-NeedsRoom.is in
+    room-less turn (λ z. omega (arith, choked, z)) (λ z. omega (arith, choked, z))
+
+pub loop-done-preserved : goal.loop-done-preserved
+loop-done-preserved c =
+    let k = c.call in
+    let turn = turned c.loop-done.invariant (told refusal_number c.loop-done.session (Ok c.in-Ok.done)) k.new.reply k.new.ram k.new.flash k.new.work c.in-Ok.ensures _ c.hold-held.ensures _ c.past-host.ensures k.auto.ram k.auto.flash k.auto.work k.auto.reply in
+    goes_on turn

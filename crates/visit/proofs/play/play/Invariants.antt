@@ -4,8 +4,8 @@ use Rattle.memory.specs.Memories.{memories}
 use Rattle.visit.proofs.Playing.{effort, Playing}
 use Rattle.visit.proofs.play.play.Given as goal
 
-abbrev pub invariant-loop-host : goal.invariant-loop-host
-invariant-loop-host l = Playing l.file (memories l.initial.ram l.initial.flash l.initial.work) l.session (memories l.ram l.flash l.work) l.host l.held l.room
+abbrev pub invariant-loop-done : goal.invariant-loop-done
+invariant-loop-done l = Playing l.file (memories l.initial.ram l.initial.flash l.initial.work) l.session (memories l.ram l.flash l.work) l.host l.held l.room
 
-abbrev pub decreases-loop-host : goal.decreases-loop-host
-decreases-loop-host l = effort l.session (memories l.ram l.flash l.work) l.host
+abbrev pub decreases-loop-done : goal.decreases-loop-done
+decreases-loop-done l = effort l.session (memories l.ram l.flash l.work) l.host
