@@ -2,29 +2,19 @@
 use crc::crc32;
 use machine::Report;
 use rom_flow::kind::Receiver;
-use show::{bytes, decimal, hex, text};
+use show::bytes;
 use std::io;
 use uartboot_flow::kind::Uartboot;
 
-// The first `count` bytes, or as many as there are.
-fn first<'a>(bytes: &'a [u8], count: usize) -> &'a [u8] {
-    if count <= bytes.len() {
-        &bytes[0..count]
-    } else {
-        bytes
-    }
-}
-
-fn line(rt: &impl Print, name: &[u8], host: &[u8], reply: &[u8], report: Report) -> io::Result<()> {
-    text(rt, name)?;
+fn line(rt: &impl Print, name: &str, host: &[u8], reply: &[u8], report: Report) -> io::Result<()> {
+    print!(rt; "{name}, host")?;
     bytes(rt, host)?;
-    text(rt, b": device")?;
-    bytes(rt, first(reply, report.sent))?;
-    text(rt, b"; phase ")?;
-    decimal(rt, report.session.phase as u64)?;
-    text(rt, b", length ")?;
-    decimal(rt, report.session.length as u64)?;
-    text(rt, b"\n")
+    print!(rt; ": device")?;
+    bytes(rt, reply.get(..report.sent).unwrap_or(reply))?;
+    println!(rt;
+        "; phase {}, length {}",
+        report.session.phase, report.session.length
+    )
 }
 
 // A RAM of 65,536 bytes.
@@ -32,7 +22,7 @@ fn extended(rt: &impl Print, host: &[u8]) -> io::Result<()> {
     let mut reply = [0u8; 16];
     let mut ram = [0u8; 65_536];
     let report = rom::session::call(Receiver::fresh(Receiver::E), host, &mut reply, &mut ram);
-    line(rt, b"E, host", host, &reply, report)
+    line(rt, "E", host, &reply, report)
 }
 
 fn uartboot(rt: &impl Print, host: &[u8], flash: &mut [u8]) -> io::Result<()> {
@@ -47,7 +37,7 @@ fn uartboot(rt: &impl Print, host: &[u8], flash: &mut [u8]) -> io::Result<()> {
         flash,
         &mut work,
     );
-    line(rt, b"uartboot, host", host, &reply, report)
+    line(rt, "uartboot", host, &reply, report)
 }
 
 // Offset 4,096, size 4,096.
@@ -58,11 +48,9 @@ fn erase_second_sector(rt: &impl Print) -> io::Result<()> {
         b"\x01\x04\x08\x00\x00\x10\x00\x00\x00\x10\x00\x00\x06",
         &mut flash,
     )?;
-    text(rt, b"the flash of 12288 bytes, which held 00: CRC-32 ")?;
-    hex(rt, crc32::crc_of(&flash) as u64, 8)?;
-    text(
-        rt,
-        b", that of 4096 times 00, 4096 times FF, 4096 times 00\n",
+    let crc = crc32::crc_of(&flash);
+    println!(rt;
+        "the flash of 12288 bytes, which held 00: CRC-32 {crc:08x}, that of 4096 times 00, 4096 times FF, 4096 times 00"
     )
 }
 

@@ -1,6 +1,6 @@
 -- `visit::play::play`: what is still to come after a call is what was still to come before it, less what it gave.
 -- Assumes nothing.
-use Rattle.std.proofs.Common.{ℕ, ◌<◌, ◌≤◌, ◌^◌, length, arith, sym, refl}
+use Rattle.std.proofs.Common.{◌<◌, ◌≤◌, length, arith, sym, refl}
 use lib.Seq.{length-take-le}
 use Rattle.std.proofs.lemmas.List.{take_rest}
 use Rattle.std.proofs.lemmas.Bool.Decides.{nat_tests}
@@ -54,8 +54,8 @@ loop-host-smaller c =
     let k = c.call-report in
     let turn = turned c.loop-host.invariant k.result k.new.reply k.new.ram k.new.flash k.new.work k.ensures _ c.hold-held.ensures _ c.past-host.ensures k.auto.ram k.auto.flash k.auto.work k.auto.reply in
     elim c.else-report-eq-WAITS.branch [
-      else-report-eq-WAITS-via-then-report-eq-WAITS+else-is_empty w ↦
-        let some : 0 < length c.past-host.result.bytes.now = grind (arith, nat_tests) in
-        taken-less turn w.if-report-eq-WAITS.true some
-    | else-report-eq-WAITS-via-else-report-eq-WAITS w ↦ room-less turn w.if-report-eq-WAITS.false c.if-report-eq-RUNS.false
+      | else-report-eq-WAITS-via-then-report-eq-WAITS+else-is_empty w ↦
+          let some : 0 < length c.past-host.result.bytes.now = grind (arith, nat_tests) in
+          taken-less turn w.if-report-eq-WAITS.true some
+      | else-report-eq-WAITS-via-else-report-eq-WAITS w ↦ room-less turn w.if-report-eq-WAITS.false c.if-report-eq-RUNS.false
     ]
