@@ -2,20 +2,13 @@
 ghost use Rattle.std.specs.Prelude.{◌≤◌, length};
 
 use crc::{Register, crc_of};
-use show::{hex, text};
 use std::io;
 
-fn line(rt: &impl Print, short: u16, long: u32, name: &[u8]) -> io::Result<()> {
-    text(rt, b"CRC-16 ")?;
-    hex(rt, short as u64, 4)?;
-    text(rt, b"  CRC-32 ")?;
-    hex(rt, long as u64, 8)?;
-    text(rt, b"  ")?;
-    text(rt, name)?;
-    text(rt, b"\n")
+fn line(rt: &impl Print, short: u16, long: u32, name: &str) -> io::Result<()> {
+    println!(rt; "CRC-16 {short:04x}  CRC-32 {long:08x}  {name}")
 }
 
-fn whole(rt: &impl Print, bytes: &[u8], name: &[u8]) -> io::Result<()> {
+fn whole(rt: &impl Print, bytes: &[u8], name: &str) -> io::Result<()> {
     line(rt, crc_of(bytes), crc_of(bytes), name)
 }
 
@@ -29,7 +22,7 @@ fn of_parts<R: Register>(bytes: &[u8], cut: usize) -> R
         .finished()
 }
 
-fn in_parts(rt: &impl Print, bytes: &[u8], cut: usize, name: &[u8]) -> io::Result<()>
+fn in_parts(rt: &impl Print, bytes: &[u8], cut: usize, name: &str) -> io::Result<()>
     requires { cut ≤ length bytes.now }
 {
     line(rt, of_parts(bytes, cut), of_parts(bytes, cut), name)
@@ -41,33 +34,33 @@ fn counting() -> [u8; 4096] {
 }
 
 fn in_catalogues(rt: &impl Print) -> io::Result<()> {
-    whole(rt, b"123456789", b"123456789")?;
-    whole(rt, b"", b"nothing")?;
-    whole(rt, b"A", b"A")?;
-    whole(rt, b"a", b"a")?;
-    whole(rt, b"abc", b"abc")?;
-    let fox = b"The quick brown fox jumps over the lazy dog";
-    whole(rt, fox, fox)
+    whole(rt, b"123456789", "123456789")?;
+    whole(rt, b"", "nothing")?;
+    whole(rt, b"A", "A")?;
+    whole(rt, b"a", "a")?;
+    whole(rt, b"abc", "abc")?;
+    let fox = "The quick brown fox jumps over the lazy dog";
+    whole(rt, fox.as_bytes(), fox)
 }
 
 fn single_bytes(rt: &impl Print) -> io::Result<()> {
-    whole(rt, b"\x00", b"00")?;
-    whole(rt, b"\x80", b"80")?;
-    whole(rt, b"\xFF", b"FF")
+    whole(rt, b"\x00", "00")?;
+    whole(rt, b"\x80", "80")?;
+    whole(rt, b"\xFF", "FF")
 }
 
 fn cut_in_two(rt: &impl Print) -> io::Result<()> {
     let digits = b"123456789";
-    in_parts(rt, digits, 0, b"nothing, 123456789")?;
-    in_parts(rt, digits, 4, b"1234, 56789")?;
-    in_parts(rt, digits, 9, b"123456789, nothing")
+    in_parts(rt, digits, 0, "nothing, 123456789")?;
+    in_parts(rt, digits, 4, "1234, 56789")?;
+    in_parts(rt, digits, 9, "123456789, nothing")
 }
 
 fn kilobytes(rt: &impl Print) -> io::Result<()> {
-    whole(rt, &[0u8; 4096], b"4,096 times 00")?;
-    whole(rt, &[0xFFu8; 4096], b"4,096 times FF")?;
-    whole(rt, &counting(), b"00 to FF, 16 times")?;
-    in_parts(rt, &counting(), 1000, b"00 to FF, 16 times, cut at 1,000")
+    whole(rt, &[0u8; 4096], "4,096 times 00")?;
+    whole(rt, &[0xFFu8; 4096], "4,096 times FF")?;
+    whole(rt, &counting(), "00 to FF, 16 times")?;
+    in_parts(rt, &counting(), 1000, "00 to FF, 16 times, cut at 1,000")
 }
 
 pub fn run(rt: &impl Print) -> io::Result<()> {

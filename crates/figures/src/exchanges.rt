@@ -2,14 +2,14 @@
 use crc::crc_of;
 use machine::{Accepted, Record};
 use rom_flow::kind::Receiver;
-use show::{bytes, hex, text};
+use show::bytes;
 use std::io;
 use uartboot_flow::kind::Uartboot;
 
 // What went, and the record then; a refused call sends nothing and leaves the record that it was given.
 fn line(
     rt: &impl Print,
-    name: &[u8],
+    name: &str,
     host: &[u8],
     reply: &[u8],
     done: Option<Accepted>,
@@ -19,12 +19,11 @@ fn line(
         Some(done) => (done.sent, done.session),
         None => (0, given),
     };
-    text(rt, name)?;
+    print!(rt; "{name}, host")?;
     bytes(rt, host)?;
-    text(rt, b": device")?;
+    print!(rt; ": device")?;
     bytes(rt, reply.get(..sent).unwrap_or(reply))?;
-    let Record { phase, length, .. } = session;
-    print!(rt; "; phase {phase}, length {length}\n")
+    println!(rt; "; phase {}, length {}", session.phase, session.length)
 }
 
 // A RAM of 65,536 bytes.
@@ -33,7 +32,7 @@ fn extended(rt: &impl Print, host: &[u8]) -> io::Result<()> {
     let mut ram = [0u8; 65_536];
     let fresh = Receiver::fresh(Receiver::E);
     let done = rom::session::call(fresh, host, &mut reply, &mut ram).ok();
-    line(rt, b"E, host", host, &reply, done, fresh)
+    line(rt, "E", host, &reply, done, fresh)
 }
 
 fn uartboot(rt: &impl Print, host: &[u8], flash: &mut [u8]) -> io::Result<()> {
@@ -41,9 +40,8 @@ fn uartboot(rt: &impl Print, host: &[u8], flash: &mut [u8]) -> io::Result<()> {
     let mut ram = [0u8; 16];
     let mut work = [0u8; 64];
     let fresh = Uartboot::fresh();
-    let done =
-        uartboot::session::call(fresh, host, &mut reply, &mut ram, flash, &mut work).ok();
-    line(rt, b"uartboot, host", host, &reply, done, fresh)
+    let done = uartboot::session::call(fresh, host, &mut reply, &mut ram, flash, &mut work).ok();
+    line(rt, "uartboot", host, &reply, done, fresh)
 }
 
 // Offset 4,096, size 4,096.
@@ -54,11 +52,9 @@ fn erase_second_sector(rt: &impl Print) -> io::Result<()> {
         b"\x01\x04\x08\x00\x00\x10\x00\x00\x00\x10\x00\x00\x06",
         &mut flash,
     )?;
-    text(rt, b"the flash of 12288 bytes, which held 00: CRC-32 ")?;
-    hex(rt, crc_of::<u32>(&flash) as u64, 8)?;
-    text(
-        rt,
-        b", that of 4096 times 00, 4096 times FF, 4096 times 00\n",
+    let crc = crc_of::<u32>(&flash);
+    println!(rt;
+        "the flash of 12288 bytes, which held 00: CRC-32 {crc:08x}, that of 4096 times 00, 4096 times FF, 4096 times 00"
     )
 }
 

@@ -1,37 +1,26 @@
 // Ranges at the edges of RAM and of flash.
-use show::{decimal, hex, text};
 use std::io;
 use wire::unit::{FlashOffset, RamAddress};
 
 fn line(
     rt: &impl Print,
-    memory: &[u8],
+    memory: &str,
     size: usize,
     count: usize,
     start: u32,
     place: Option<usize>,
 ) -> io::Result<()> {
-    text(rt, memory)?;
-    text(rt, b" of ")?;
-    decimal(rt, size as u64)?;
-    text(rt, b", ")?;
-    decimal(rt, count as u64)?;
-    text(rt, b" from ")?;
-    hex(rt, start as u64, 8)?;
+    print!(rt; "{memory} of {size}, {count} from {start:08x}: ")?;
     match place {
-        Some(at) => {
-            text(rt, b": from byte ")?;
-            decimal(rt, at as u64)?;
-        }
-        None => text(rt, b": outside")?,
+        Some(at) => println!(rt; "from byte {at}"),
+        None => println!(rt; "outside"),
     }
-    text(rt, b"\n")
 }
 
 fn ram(rt: &impl Print, address: u32, count: usize, size: usize) -> io::Result<()> {
     line(
         rt,
-        b"RAM",
+        "RAM",
         size,
         count,
         address,
@@ -42,7 +31,7 @@ fn ram(rt: &impl Print, address: u32, count: usize, size: usize) -> io::Result<(
 fn flash(rt: &impl Print, offset: u32, count: usize, size: usize) -> io::Result<()> {
     line(
         rt,
-        b"flash",
+        "flash",
         size,
         count,
         offset,

@@ -1,20 +1,12 @@
 // Numbers at the edges of the bytes 12 34 56 78 9A.
-use show::{decimal, hex, text};
 use std::io;
 
 fn line(rt: &impl Print, width: u64, place: usize, found: Option<u32>) -> io::Result<()> {
-    text(rt, b"12 34 56 78 9A, ")?;
-    decimal(rt, width)?;
-    text(rt, b" bytes from ")?;
-    decimal(rt, place as u64)?;
+    print!(rt; "12 34 56 78 9A, {width} bytes from {place}: ")?;
     match found {
-        Some(number) => {
-            text(rt, b": ")?;
-            hex(rt, number as u64, 4)?;
-        }
-        None => text(rt, b": missing")?,
+        Some(number) => println!(rt; "{number:04x}"),
+        None => println!(rt; "missing"),
     }
-    text(rt, b"\n")
 }
 
 fn read(rt: &impl Print, place: usize) -> io::Result<()> {
@@ -24,11 +16,8 @@ fn read(rt: &impl Print, place: usize) -> io::Result<()> {
 }
 
 pub fn run(rt: &impl Print) -> io::Result<()> {
-    read(rt, 0)?;
-    read(rt, 1)?;
-    read(rt, 2)?;
-    read(rt, 3)?;
-    read(rt, 4)?;
-    read(rt, 5)?;
-    read(rt, 0xFFFF_FFFF_FFFF_FFFF)
+    for place in [0, 1, 2, 3, 4, 5, usize::MAX] {
+        read(rt, place)?;
+    }
+    Ok(())
 }

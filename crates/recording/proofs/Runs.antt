@@ -1,12 +1,12 @@
 -- Runs, and what is left from one on.
 -- Assumes nothing.
-use Prim.Native.Nat.{ℕ, zero, suc, ◌+◌, ◌-◌, ◌≤◌, ◌<◌}
+use Prim.Native.Nat.{ℕ, ◌+◌, ◌-◌, ◌≤◌, ◌<◌}
 use native.Mathlib.Omega.{arith}
 use mathlib.Core.Path.{◌≡◌, refl, sym, ap, ◌∙◌}
 use mathlib.Core.List.{List, [], ◌∷◌, ◌++◌}
-use lib.ListN.{length, get_or, take, drop, length-drop, length-append}
+use lib.ListN.{length, get_or, take, drop, length-drop}
 use Rattle.std.proofs.lemmas.List.{take_rest}
-use lib.Seq.{length-take-le, take_at, drop-drop, drop-append-le}
+use lib.Seq.{length-take-le, take_at, drop-drop}
 use borrow.Author.Tests.{eq-eqb, ne_eqb}
 use denote.Bor.{Bor}
 use Rattle.std.specs.List.{slice_range}

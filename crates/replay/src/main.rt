@@ -5,27 +5,25 @@
 mod stated;
 
 use crate::stated::{LONGEST, replay_stated};
-use show::{decimal, read_full, text};
+use show::read_full;
 use std::io;
 use visit::Replayed;
 
 fn show_answer(rt: &impl Print, answer: Replayed) -> io::Result<()> {
     if answer.number != 0 {
-        text(rt, b"-")?;
-        decimal(rt, answer.number as u64)?;
+        println!(rt; "-{}", answer.number)
     } else if answer.equal != 0 {
-        text(rt, b"equal")?;
+        println!(rt; "equal")
     } else {
-        decimal(rt, answer.place as u64)?;
+        println!(rt; "{}", answer.place)
     }
-    text(rt, b"\n")
 }
 
 fn main(rt: HostRuntime) -> io::Result<()> {
     let mut file = stated::file();
     let count = read_full(&rt, &mut file)?;
     if count > LONGEST {
-        return text(&rt, b"too long\n");
+        return println!(&rt; "too long");
     }
     show_answer(&rt, replay_stated(&file[..count]))
 }

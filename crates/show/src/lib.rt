@@ -1,4 +1,4 @@
-// Words, numbers and bytes on standard output, and the bytes of standard input, for the programs that run figures.
+// Bytes on standard output, as they are and in hexadecimal, and the bytes of standard input, for the programs that run figures.
 #![tactic(auto)]
 
 ghost use Rattle.std.specs.Prelude.{◌≤◌, length, IfOk};
@@ -8,16 +8,6 @@ use std::io::Read;
 
 pub fn text(rt: &impl Print, bytes: &[u8]) -> io::Result<()> {
     rt.write_all(bytes)
-}
-
-pub fn decimal(rt: &impl Print, number: u64) -> io::Result<()> {
-    print!(rt; "{number}")
-}
-
-// A number in hexadecimal, with zeros before it up to `width` digits. A width above 16 counts as 16.
-pub fn hex(rt: &impl Print, number: u64, width: usize) -> io::Result<()> {
-    let width = width.min(16);
-    print!(rt; "{number:0width$x}")
 }
 
 // Bytes in hexadecimal, a blank before each.

@@ -7,12 +7,12 @@ use mathlib.Core.Path.{◌≡◌, refl, sym, ap, ◌∙◌}
 use mathlib.Core.Bool.{true, false}
 use mathlib.Core.List.{List, [], ◌∷◌, ◌++◌}
 use lib.Dec.{eqb, ltb}
-use lib.ListN.{length, get_or, drop, length-drop, length-append, drop_of_length-le}
+use lib.ListN.{length, get_or, drop, length-drop, drop_of_length-le}
 use lib.Seq.{drop-cons}
 use borrow.Author.Tests.{ltb-true, ltb-false}
 use borrow.Table.Steps.{cases}
 use denote.Bor.{Bor}
-use Rattle.std.specs.Prelude.{Option, None, Some, slice_get, Result, Ok, Err, IfOk}
+use Rattle.std.specs.Prelude.{Option, None, Some, slice_get, Result, Ok, Err}
 use Rattle.std.specs.Option.{option_eq, option_copied}
 use Rattle.recording.specs.Left.{left_in, IsRun, Leaves}
 use Rattle.recording.specs.declared.run.Run.{Run}

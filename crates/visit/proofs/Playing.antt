@@ -3,10 +3,10 @@
 use Prim.Native.Nat.{ℕ, ◌+◌, ◌-◌, ◌^◌, ◌≤◌, ◌<◌}
 use native.Mathlib.Omega.{arith}
 use mathlib.Core.Path.{◌≡◌, refl, sym, ap, subst, ◌∙◌}
-use mathlib.Core.List.{List, [], ◌++◌}
+use mathlib.Core.List.{List, ◌++◌}
 use lib.Dec.{ltb}
 use lib.ListN.{length, take, drop, length-append, length-drop}
-use lib.Seq.{length-take-le, drop-nil}
+use lib.Seq.{length-take-le}
 use borrow.Author.Tests.{ltb-true, ltb-false}
 use borrow.Table.Steps.{cases}
 use Rattle.std.specs.Prelude.{Result, Ok, IfOk}
@@ -116,6 +116,7 @@ pub record Turn (file : List ℕ) (m₀ : Memories) (session : Record) (mem : Me
   pub leaves : Leaves host.kind (drop a.report.taken (left_in host)) host'
   pub keeps : SameLengths a.memories mem
   pub long : length a.reply ≡ length room
+
 -- from what the program's calls say of their values
 pub turned : {file : List ℕ} {m₀ : Memories} {session : Record} {mem : Memories} {host : Run} {held : Result Held ℕ} {room : List ℕ}
     → Playing file m₀ session mem host held room

@@ -1,6 +1,6 @@
 -- `recording::run::Run::first`: what is left from the entry on is what was left at first.
 -- Assumes nothing.
-use Rattle.std.proofs.Common.{ℕ, ◌≡◌, ◌<◌, ◌≤◌, length, rules, arith, sym, ◌∙◌}
+use Rattle.std.proofs.Common.{◌≡◌, ◌<◌, ◌≤◌, length, rules, arith, sym, ◌∙◌}
 use Rattle.std.proofs.lemmas.Bool.Decides.{nat_tests}
 use Rattle.recording.specs.Form.{kind_in, kind_number}
 use Rattle.recording.proofs.Runs.{head-there, size-there, found, no_bytes, other_kind}
@@ -41,9 +41,9 @@ loop-bytes-preserved c =
     let there : 0 < length c.loop-bytes.rest.now = grind (arith, nat_tests) in
     let s = c.split_at in
     elim c.else-rest-from.branch [
-      else-rest-from-via-then-rest-from+else-not-is_empty w ↦
-        let none : length s.result.0.now ≤ 0 = grind (arith, nat_tests) in
-        no_bytes c.loop-bytes.invariant there c.size_in.result c.size_in.ensures s.result.0 s.result.1 s.ensures.front s.ensures.back (w.if-rest-from.true ∙ c.from.ensures) none
-    | else-rest-from-via-else-rest-from w ↦
-        other_kind c.loop-bytes.invariant there c.size_in.result c.size_in.ensures s.result.0 s.result.1 s.ensures.front s.ensures.back (λ e. w.if-rest-from.false (e ∙ sym c.from.ensures))
+      | else-rest-from-via-then-rest-from+else-not-is_empty w ↦
+          let none : length s.result.0.now ≤ 0 = grind (arith, nat_tests) in
+          no_bytes c.loop-bytes.invariant there c.size_in.result c.size_in.ensures s.result.0 s.result.1 s.ensures.front s.ensures.back (w.if-rest-from.true ∙ c.from.ensures) none
+      | else-rest-from-via-else-rest-from w ↦
+          other_kind c.loop-bytes.invariant there c.size_in.result c.size_in.ensures s.result.0 s.result.1 s.ensures.front s.ensures.back (λ e. w.if-rest-from.false (e ∙ sym c.from.ensures))
     ]
