@@ -51,7 +51,7 @@ refusal_number ShortOutput = short_output
 
 -- the number 0 and a frame's length, or a refusal
 abbrev pub framed_as : Result ℕ Refusal → Framed
-framed_as (Ok length) = record { number = 0; length = length }
+framed_as (Ok size) = record { number = 0; length = size }
 framed_as (Err why) = refused (refusal_number why)
 
 -- what is given back, and the output afterwards

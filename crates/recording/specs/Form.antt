@@ -29,7 +29,7 @@ fault_number UnknownKind = unknown_kind
 fault_number CutShort = cut_short
 
 -- 0 where nothing is wrong
-abbrev pub number_of : {T : Type 0} → Result T Fault → ℕ
+abbrev pub number_of : {A : Type 0} → Result A Fault → ℕ
 number_of (Ok there) = 0
 number_of (Err fault) = fault_number fault
 
