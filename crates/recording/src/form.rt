@@ -1,6 +1,7 @@
 // The form of a recording's file: a head and entries.
 ghost use Rattle.std.specs.Prelude.{◌≡◌, ◌<◌, ◌≤◌, length, drop, IfOk};
-ghost use Rattle.recording.specs.Form.{head_length, head_fault, kind_number, kind_of, size_in, entry_head, past_entry, entry_fault, fault_number, number_of};
+ghost use Rattle.recording.specs.Form.{head_length, head_fault, size_in, entry_head, past_entry, entry_fault};
+ghost use Rattle.recording.specs.Form.{kind_number, kind_of, fault_number, number_of};
 ghost use Rattle.recording.specs.Recording.{recording_of, fault_of};
 
 use memory::compare::is_front;

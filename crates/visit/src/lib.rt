@@ -15,6 +15,7 @@ pub mod held;
 pub mod play;
 
 // What a replay gives: equal 1 and place 0; equal 0 and the place of the first difference; or a refusal's number and zeros.
+// Numbers and not a Result, since C reads it from `und_replay`.
 #[repr(C)]
 #[derive(Clone, Copy)]
 pub struct Replayed {
