@@ -37,4 +37,4 @@ module _ {A M S E : Type 0} (σ : Session A M S) (number : E → ℕ) (words : L
       (c ≡ called_of (told (λ n. n) (record_of words) numbered)) × (words' ≡ words_after numbered words) →
       handed c words' reply' mem' ≡ handed_of (result_of σ (record_of words) mem input reply)
   handed-back words' c back =
-      rw (back.0, back.1 ∙ words_back numbered, ← made.0) (ap (λ (a : session.Returned M). handed_of a) by-number)
+      rw (back.0, back.1 ∙ words_back numbered, ← made.0) (ap (λ (a : session.GivenBack M). handed_of a) by-number)

@@ -25,5 +25,5 @@ pub record Handed (M : Type 0) : Type 0 where
 abbrev pub handed : {M : Type 0} → Called → (words reply : List ℕ) → M → Handed M
 handed called words reply mem = record { called = called; words = words; reply = reply; memories = mem }
 
-abbrev pub handed_of : {M : Type 0} → session.Returned M → Handed M
+abbrev pub handed_of : {M : Type 0} → session.GivenBack M → Handed M
 handed_of a = handed (called_of a.report) (words_of a.report.session) a.reply a.memories

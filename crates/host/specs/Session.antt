@@ -3,7 +3,7 @@
 -- Assumes nothing.
 use Rattle.std.specs.Prelude as std
 use Rattle.std.specs.Prelude.{ℕ, List, Option, Some, None}
-use Rattle.machine.specs.Session.{Read, sound, unsound, Session, Returned}
+use Rattle.machine.specs.Session.{Read, sound, unsound, Session, GivenBack}
 use Rattle.machine.specs.Told.{told}
 use Rattle.machine.specs.declared.Record.{Record}
 use Rattle.machine.specs.declared.Accepted.{Accepted}
@@ -31,5 +31,5 @@ host_session =
     }
 
 -- what a call on a record gives back, with the output and what is lent after it
-abbrev pub given_back : Record → std.Result Accepted CallRefusal → (output : List ℕ) → Lent → Returned Lent
+abbrev pub given_back : Record → std.Result Accepted CallRefusal → (output : List ℕ) → Lent → GivenBack Lent
 given_back session outcome output c = record { report = told refusal_number session outcome; reply = output; memories = c }

@@ -3,7 +3,7 @@
 -- Assumes nothing.
 use Rattle.std.specs.Prelude.{ℕ, ◌≤◌, ◌≡◌, List, [], ◌∷◌, take}
 use Rattle.machine.specs.Lawful.{Every}
-use Rattle.machine.specs.Session.{Session, Returned}
+use Rattle.machine.specs.Session.{Session, GivenBack}
 use Rattle.joining.specs.Joint.{begun}
 use Rattle.joining.specs.Rounds.{rounds, enough_rounds}
 use Rattle.joining.specs.Sides.{Sides, waits, answered, having, Lending, on_left, on_right, lending, sides_of}
@@ -11,8 +11,8 @@ use Rattle.joining.specs.Lists.{left_full, right_full, JoinedSides, end_sides}
 
 -- what a call gave back
 pub data Returned (M N : Type 0) : Type 0 where
-  by_left : Returned M → Returned M N
-  by_right : Returned N → Returned M N
+  by_left : GivenBack M → Returned M N
+  by_right : GivenBack N → Returned M N
 
 module _ {M N : Type 0} where
   -- both sides after a call that gave this back

@@ -4,7 +4,7 @@
 use Rattle.std.specs.Prelude.{ℕ, ◌+◌, take, drop}
 use mathlib.Core.List.{List, ◌++◌, foldl}
 use Rattle.machine.specs.Outcome.{Outcome}
-use Rattle.machine.specs.Session.{Session, Returned, result_of}
+use Rattle.machine.specs.Session.{Session, GivenBack, result_of}
 use Rattle.machine.specs.declared.Record.{Record}
 use Rattle.joining.specs.Joint.{Both}
 
@@ -24,11 +24,11 @@ abbrev pub waits : {M N : Type 0} → Side M → Side N → List ℕ
 waits mine other = drop mine.taken other.sent
 
 -- what a call with this input and this reply slice gives back
-abbrev pub answered : {M S : Type 0} → Session ℕ M S → Side M → (input reply : List ℕ) → Returned M
+abbrev pub answered : {M S : Type 0} → Session ℕ M S → Side M → (input reply : List ℕ) → GivenBack M
 answered σ side input reply = result_of σ side.session side.memories input reply
 
 -- the side after it
-abbrev pub having : {M : Type 0} → Side M → Returned M → Side M
+abbrev pub having : {M : Type 0} → Side M → GivenBack M → Side M
 having side a =
     record {
       session = a.report.session;

@@ -14,7 +14,7 @@ use Rattle.machine.specs.Uncut.{uncut}
 use Rattle.machine.specs.History.{Event, Came}
 use Rattle.machine.specs.Lawful.{Every, Lawful}
 use Rattle.machine.specs.Cuts.{Stopped}
-use Rattle.machine.specs.Session.{Session, Returned, refused, accepted, result_of}
+use Rattle.machine.specs.Session.{Session, GivenBack, refused, accepted, result_of}
 use Rattle.machine.specs.SessionLaws.{OneByOne, Faithful}
 use Rattle.machine.specs.Listing.{Lent, totals, results, given, Made, none, next}
 use Rattle.machine.specs.SessionClaim as claim
@@ -28,13 +28,13 @@ use Rattle.machine.proofs.Refusals.{accepts-standing}
 use Rattle.machine.proofs.Cuts.{came-agrees}
 
 -- what a program's calls gave back is what the definition gives
-pub made-results : {A M S : Type 0} (σ : Session A M S) {session : Record} {mem : M} {rest : List A} {cs : List Lent} {given : List (Returned M)} →
+pub made-results : {A M S : Type 0} (σ : Session A M S) {session : Record} {mem : M} {rest : List A} {cs : List Lent} {given : List (GivenBack M)} →
     Made σ session mem rest cs given → given ≡ results σ session mem rest cs
 unfolding results
 made-results σ none = refl
 made-results σ {session} {mem} {rest} (next {c = c} {later = later} {a = a} {others = others} e m) =
-    ap (λ (os : List (Returned _)). a ∷ os) (made-results σ m)
-    ∙ ap (λ (x : Returned _). x ∷ results σ x.report.session x.memories (drop x.report.taken rest) later) e
+    ap (λ (os : List (GivenBack _)). a ∷ os) (made-results σ m)
+    ∙ ap (λ (x : GivenBack _). x ∷ results σ x.report.session x.memories (drop x.report.taken rest) later) e
 
 -- refused lengths: every call is refused, and the next one finds everything as it was
 refused_all : {A M S : Type 0} (σ : Session A M S) (session : Record) (mem : M) → (σ.refusal mem ≡ 0 → ⊥) → (rest : List A) (cs : List Lent) →
@@ -42,7 +42,7 @@ refused_all : {A M S : Type 0} (σ : Session A M S) (session : Record) (mem : M)
 unfolding results result_of
 refused_all σ session mem h rest [] = refl
 refused_all σ session mem h rest (c ∷ cs) =
-    rw (ne_eqb _ _ h) (ap (λ (os : List (Returned _)). refused (σ.refusal mem) session c.reply mem ∷ os) (refused_all σ session mem h rest cs))
+    rw (ne_eqb _ _ h) (ap (λ (os : List (GivenBack _)). refused (σ.refusal mem) session c.reply mem ∷ os) (refused_all σ session mem h rest cs))
 
 -- where no action has more than `slot` symbols in view, a call that waits leaves fewer
 pub leaves-less : {A M S : Type 0} (σ : Session A M S) {Good : A → Type 0} {Sound : S → Type 0} → Lawful σ.machine Good Sound →
@@ -110,7 +110,7 @@ module _ {A M S : Type 0} (σ : Session A M S) {Good : A → Type 0} {fresh : M 
         rw (result-is o.final (came-sound o c) input l.reply, ih', take-append_seam p.replies (drop (length p.replies) l.reply), length-append p.replies q.replies) refl
 
     none-refused : (cs : List Lent) (o : Outcome S) → Came m start stream o →
-        Every (λ (a : Returned M). a.report.number ≡ 0) (results σ (σ.write o.final) (σ.memories o.final) (drop o.taken stream) cs)
+        Every (λ (a : GivenBack M). a.report.number ≡ 0) (results σ (σ.write o.final) (σ.memories o.final) (drop o.taken stream) cs)
     unfolding results accepted
     none-refused [] o c = tt
     none-refused (l ∷ cs) o c =

@@ -35,7 +35,7 @@ pub record Report : Type 0 where
   pub session : Record
 
 -- what a call gives back, with the lent slices after it
-pub record Returned (M : Type 0) : Type 0 where
+pub record GivenBack (M : Type 0) : Type 0 where
   pub report : Report
   pub reply : List ℕ
   pub memories : M
@@ -48,12 +48,12 @@ bad_record = 4
 abbrev pub refused_report : (number : ℕ) → Record → Report
 refused_report number session = record { number = number; standing = 0; taken = 0; sent = 0; session = session }
 
-abbrev pub refused : {M : Type 0} → (number : ℕ) → Record → (reply : List ℕ) → M → Returned M
+abbrev pub refused : {M : Type 0} → (number : ℕ) → Record → (reply : List ℕ) → M → GivenBack M
 refused number session reply mem = record { report = refused_report number session; reply = reply; memories = mem }
 
 module _ {A M S : Type 0} (σ : Session A M S) where
   -- an accepted call at s
-  unfoldable pub accepted : S → (input : List A) (reply : List ℕ) → Returned M
+  unfoldable pub accepted : S → (input : List A) (reply : List ℕ) → GivenBack M
   accepted s input reply =
       let o = call σ.machine s input (length reply) in
       record {
@@ -68,12 +68,12 @@ module _ {A M S : Type 0} (σ : Session A M S) where
         memories = σ.memories o.final;
       }
 
-  abbrev pub read_result : Read S → Record → M → (input : List A) (reply : List ℕ) → Returned M
+  abbrev pub read_result : Read S → Record → M → (input : List A) (reply : List ℕ) → GivenBack M
   read_result (sound s) session mem input reply = accepted s input reply
   read_result unsound session mem input reply = refused bad_record session reply mem
 
   -- a call: lengths first, then the record
-  unfoldable pub result_of : Record → M → (input : List A) (reply : List ℕ) → Returned M
+  unfoldable pub result_of : Record → M → (input : List A) (reply : List ℕ) → GivenBack M
   result_of session mem input reply =
       cond (eqb (σ.refusal mem) 0)
       (read_result (σ.read session mem) session mem input reply)

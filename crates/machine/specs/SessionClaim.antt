@@ -5,17 +5,17 @@ use Rattle.machine.specs.Outcome.{Outcome}
 use Rattle.machine.specs.History.{Event, Way, Came}
 use Rattle.machine.specs.Lawful.{Every}
 use Rattle.machine.specs.Cuts.{Begins}
-use Rattle.machine.specs.Session.{Session, Returned, sound, refused, result_of}
+use Rattle.machine.specs.Session.{Session, GivenBack, sound, refused, result_of}
 use Rattle.machine.specs.Listing.{Lent, Given, totals, results, definition_of, Made}
 use Rattle.machine.specs.declared.Record.{Record}
 
 -- a call that stopped since input is missing, or since code runs, and not since room is missing
-pub data Stops {M : Type 0} (a : Returned M) : Type 0 where
+pub data Stops {M : Type 0} (a : GivenBack M) : Type 0 where
   waits : a.report.standing ≡ 1 → Stops a
   running : a.report.standing ≡ 3 → Stops a
 
 -- a call that took nothing and waits for more input than it was shown
-pub record Starves {M : Type 0} (a : Returned M) : Type 0 where
+pub record Starves {M : Type 0} (a : GivenBack M) : Type 0 where
   pub took_nothing : a.report.taken ≡ 0
   pub waits : a.report.standing ≡ 1
 
@@ -62,11 +62,11 @@ module _ {A M S : Type 0} (σ : Session A M S) (Told : List (Event A S) → S �
 -- Good: the symbols of a stream
 module _ {A M S : Type 0} (σ : Session A M S) (Good : A → Type 0) (Told : List (Event A S) → S → Type 0) (fresh : M → S) where
   -- these are the results of a list of calls from a fresh record, with memories as first lent
-  pub record Holds (mem : M) (stream : List A) (cs : List Lent) (given : List (Returned M)) : Type 0 where
+  pub record Holds (mem : M) (stream : List A) (cs : List Lent) (given : List (GivenBack M)) : Type 0 where
     -- refused lengths: every call is refused with their number and changes nothing
     pub refused_lengths : (σ.refusal mem ≡ 0 → ⊥) → given ≡ map (λ (c : Lent). refused (σ.refusal mem) (σ.write (fresh mem)) c.reply mem) cs
     -- else no call is refused, and the list follows the definition
-    pub no_refusal : σ.refusal mem ≡ 0 → Every (λ (a : Returned M). a.report.number ≡ 0) given
+    pub no_refusal : σ.refusal mem ≡ 0 → Every (λ (a : GivenBack M). a.report.number ≡ 0) given
     pub follows : σ.refusal mem ≡ 0 → Follows σ Told (fresh mem) stream (totals (σ.write (fresh mem)) mem given)
 
   -- for all memories, every stream of good symbols and every list of calls, each call being the definition's
@@ -77,5 +77,5 @@ module _ {A M S : Type 0} (σ : Session A M S) (Good : A → Type 0) (Told : Lis
   -- the same for what a program's calls gave back
   abbrev pub MadeClaim : Type 0
   MadeClaim =
-      (mem : M) (stream : List A) → Every Good stream → (cs : List Lent) (given : List (Returned M)) → Made σ (σ.write (fresh mem)) mem stream cs given →
+      (mem : M) (stream : List A) → Every Good stream → (cs : List Lent) (given : List (GivenBack M)) → Made σ (σ.write (fresh mem)) mem stream cs given →
       Holds mem stream cs given

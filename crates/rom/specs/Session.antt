@@ -3,7 +3,7 @@
 use Rattle.std.specs.Prelude as std
 use Rattle.std.specs.Prelude.{ℕ, cond, List, length, Option, Some, None}
 use Rattle.wire.specs.Length.{is_ram_length, bad_ram}
-use Rattle.machine.specs.Session.{Read, sound, unsound, Session, Returned}
+use Rattle.machine.specs.Session.{Read, sound, unsound, Session, GivenBack}
 use Rattle.machine.specs.Told.{refusal_number, told}
 use Rattle.machine.specs.declared.Record.{Record}
 use Rattle.machine.specs.declared.Accepted.{Accepted}
@@ -29,5 +29,5 @@ rom =
     }
 
 -- what a call on a record gives back, with the reply and the RAM after it
-abbrev pub given_back : Record → std.Result Accepted Refusal → (reply ram : List ℕ) → Returned (List ℕ)
+abbrev pub given_back : Record → std.Result Accepted Refusal → (reply ram : List ℕ) → GivenBack (List ℕ)
 given_back session outcome reply ram = record { report = told refusal_number session outcome; reply = reply; memories = ram }

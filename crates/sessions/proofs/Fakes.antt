@@ -7,7 +7,7 @@ use mathlib.Core.Bool.{true}
 use mathlib.Core.List.{List, [], ◌∷◌}
 use lib.ListN.{length, take, get_or, replicate}
 use Rattle.machine.specs.Call.{act, call}
-use Rattle.machine.specs.Session.{Returned, accepted, result_of}
+use Rattle.machine.specs.Session.{GivenBack, accepted, result_of}
 use Rattle.machine.specs.declared.Record.{Record}
 use Rattle.wire.specs.Bytes.{Word}
 use Rattle.wire.specs.Line.{ack, nak}
@@ -53,7 +53,7 @@ sample-fits uartboot = (are-bytes small.ram refl, are-bytes small.flash refl, ar
 possible : (kind : Kind) (input reply : List ℕ) → are_bytes input ≡ true → are_bytes reply ≡ true → Possible kind (start kind) (sample kind) input reply
 possible kind input reply i j = record { words = words-fit kind; memories = sample-fits kind; taken_from = are-bytes input i; sent_to = are-bytes reply j }
 
-abbrev first_call : (kind : Kind) (input : List ℕ) → Returned (MemoriesOf kind)
+abbrev first_call : (kind : Kind) (input : List ℕ) → GivenBack (MemoriesOf kind)
 first_call kind input = result_of (session_of kind) (start kind) (sample kind) input room
 
 -- a stream that is refused
@@ -117,7 +117,7 @@ some uartboot e = omega arith
 
 numbered : (kind : Kind) (f : Routine kind) → Keeps kind f → (input : List ℕ) → are_bytes input ≡ true →
     (f (start kind) (sample kind) input room).report.number ≡ (first_call kind input).report.number
-numbered kind f keeps input e = ap (λ (a : Returned (MemoriesOf kind)). a.report.number) (keeps (start kind) (sample kind) input room (possible kind input room e refl))
+numbered kind f keeps input e = ap (λ (a : GivenBack (MemoriesOf kind)). a.report.number) (keeps (start kind) (sample kind) input room (possible kind input room e refl))
 
 -- the streams below are of bytes
 refused-bytes : (kind : Kind) → are_bytes (refused_stream kind) ≡ true
@@ -136,7 +136,7 @@ unfolding result_of accepted act call is_between is_flash_length device-record.d
 both-written = refl
 
 -- how many bytes a result shows
-abbrev shown_by : (kind : Kind) → Returned (MemoriesOf kind) → ℕ
+abbrev shown_by : (kind : Kind) → GivenBack (MemoriesOf kind) → ℕ
 shown_by kind a = length (take a.report.sent a.reply)
 
 pub nobody-fakes : NobodyFakes
@@ -157,13 +157,13 @@ nobody-fakes =
           let header = header_of kind (accepted_low kind) 0 in
           let here = possible kind header room (header-bytes kind) refl in
           let nak-sent = naks (sample kind) (accepted_low kind) 0 room here (some-low kind) refl (numbered kind f keeps header (header-bytes kind) ∙ (acknowledged kind).0) in
-          let ack-sent = ap (λ (a : Returned (MemoriesOf kind)). get_or a.reply (greeting_length_of kind) 0) (keeps (start kind) (sample kind) header room here) ∙ (acknowledged kind).1 in
+          let ack-sent = ap (λ (a : GivenBack (MemoriesOf kind)). get_or a.reply (greeting_length_of kind) 0) (keeps (start kind) (sample kind) header room here) ∙ (acknowledged kind).1 in
           let z : ack ≡ nak = sym ack-sent ∙ nak-sent in omega arith;
       no_idling = λ kind f keeps idles.
           let here = possible kind [] room refl refl in
-          some kind (sym (ap (λ (a : Returned (MemoriesOf kind)). a.report.sent) (keeps (start kind) (sample kind) [] room here) ∙ first-sent kind)
+          some kind (sym (ap (λ (a : GivenBack (MemoriesOf kind)). a.report.sent) (keeps (start kind) (sample kind) [] room here) ∙ first-sent kind)
           ∙ (idles (start kind) (sample kind) [] room here).1);
       no_invented_counts = λ kind f keeps r mem s input reply here fits reads.
           rw (keeps r mem input reply here) (simp (fits, reads) (refl, refl));
-      no_bare_acknowledgement = λ f keeps. ap (λ (a : Returned (MemoriesOf uartboot)). a.memories.ram) (keeps fresh_record small two_writes (replicate 64 0x00) (possible uartboot two_writes (replicate 64 0x00) refl refl)) ∙ both-written;
+      no_bare_acknowledgement = λ f keeps. ap (λ (a : GivenBack (MemoriesOf uartboot)). a.memories.ram) (keeps fresh_record small two_writes (replicate 64 0x00) (possible uartboot two_writes (replicate 64 0x00) refl refl)) ∙ both-written;
     }

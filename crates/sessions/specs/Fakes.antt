@@ -5,7 +5,7 @@ use Rattle.wire.specs.Bytes.{Bytes, Word}
 use Rattle.wire.specs.Line.{soh, nak}
 use Rattle.machine.specs.Call.{call}
 use Rattle.machine.specs.Lawful.{Every}
-use Rattle.machine.specs.Session.{Returned, sound, result_of}
+use Rattle.machine.specs.Session.{GivenBack, sound, result_of}
 use Rattle.machine.specs.Words.{words_of}
 use Rattle.machine.specs.declared.Record.{Record}
 use Rattle.opcodes.specs.declared.Opcode.TheVariants.{Erase}
@@ -17,7 +17,7 @@ use Rattle.sessions.specs.Kind.{Kind, rom_p, rom_e, uartboot, MemoriesOf, StateO
 
 -- a session call's routine
 abbrev pub Routine : Kind → Type 0
-Routine kind = Record → MemoriesOf kind → (input reply : List ℕ) → Returned (MemoriesOf kind)
+Routine kind = Record → MemoriesOf kind → (input reply : List ℕ) → GivenBack (MemoriesOf kind)
 
 abbrev pub InBytes : (kind : Kind) → MemoriesOf kind → Type 0
 InBytes rom_p ram = Bytes ram

@@ -2,7 +2,7 @@
 -- call's record on is what it gave before the call, less what the call gave. So a stream may be played piece by piece.
 -- Assumes nothing.
 use Rattle.std.specs.Prelude.{ℕ, ◌+◌, ◌≤◌, ◌≡◌, List, [], ◌++◌, length, take, drop}
-use Rattle.machine.specs.Session.{Session, Returned, Read, sound, unsound, result_of}
+use Rattle.machine.specs.Session.{Session, GivenBack, Read, sound, unsound, result_of}
 use Rattle.machine.specs.Listing.{Given, totals, definition_of}
 use Rattle.machine.specs.declared.Record.{Record}
 use Rattle.sessions.specs.Kind.{Kind, MemoriesOf, session_of, fresh_record_of}
@@ -19,7 +19,7 @@ abbrev pub nothing : {M : Type 0} → Record → M → Given M
 nothing r mem = totals r mem []
 
 -- what a call gave, and then what came after it
-abbrev pub and_then : {M : Type 0} → Returned M → Given M → Given M
+abbrev pub and_then : {M : Type 0} → GivenBack M → Given M → Given M
 and_then a g =
     record {
       replies = take a.report.sent a.reply ++ g.replies;
@@ -39,7 +39,7 @@ module _ {M S : Type 0} (σ : Session ℕ M S) where
   onward r mem stream = onward_at (σ.read r mem) r mem stream
 
 -- a call on a front of what is left of the stream, with any reply slice
-pub record Call (kind : Kind) (r : Record) (mem : MemoriesOf kind) (stream : List ℕ) (shown : ℕ) (reply : List ℕ) (a : Returned (MemoriesOf kind)) : Type 0 where
+pub record Call (kind : Kind) (r : Record) (mem : MemoriesOf kind) (stream : List ℕ) (shown : ℕ) (reply : List ℕ) (a : GivenBack (MemoriesOf kind)) : Type 0 where
   pub goes_on : onward (session_of kind) r mem stream ≡ and_then a (onward (session_of kind) a.report.session a.memories (drop a.report.taken stream))
   pub taken_within : a.report.taken ≤ length (take shown stream)
   pub sent_within : a.report.sent ≤ length reply

@@ -3,7 +3,7 @@
 use Rattle.std.specs.Prelude as std
 use Rattle.std.specs.Prelude.{ℕ, cond, not, List, length, Option, Some, None}
 use Rattle.wire.specs.Length.{is_work_length, bad_work, is_ram_length, bad_ram, is_flash_length, bad_flash}
-use Rattle.machine.specs.Session.{Read, sound, unsound, Session, Returned}
+use Rattle.machine.specs.Session.{Read, sound, unsound, Session, GivenBack}
 use Rattle.machine.specs.Told.{refusal_number, told}
 use Rattle.machine.specs.declared.Record.{Record}
 use Rattle.machine.specs.declared.Accepted.{Accepted}
@@ -37,5 +37,5 @@ uartboot =
     }
 
 -- what a call on a record gives back, with the reply and the memories after it
-abbrev pub given_back : Record → std.Result Accepted Refusal → (reply : List ℕ) → Memories → Returned Memories
+abbrev pub given_back : Record → std.Result Accepted Refusal → (reply : List ℕ) → Memories → GivenBack Memories
 given_back session outcome reply m = record { report = told refusal_number session outcome; reply = reply; memories = m }

@@ -90,7 +90,7 @@ begins file m₀ session host run room p e entries all h₀ d₀ long fits =
 -- a call that is shown the run
 module _ {file : List ℕ} {m₀ : Memories} {session : Record} {mem : Memories} {host : Run} {held : Result Held ℕ} {room : List ℕ}
     (g : Playing file m₀ session mem host held room)
-    (a : machine.Returned Memories) (is : a ≡ result_of device.uartboot session mem host.bytes.now room)
+    (a : machine.GivenBack Memories) (is : a ≡ result_of device.uartboot session mem host.bytes.now room)
     (long : length a.reply ≡ length room) where
   by-definition : result_of device.uartboot session mem (take (length host.bytes.now) (left_in host)) room ≡ a
   by-definition = rw (run-shown host) (sym is)
@@ -109,7 +109,7 @@ module _ {file : List ℕ} {m₀ : Memories} {session : Record} {mem : Memories}
   never-refused e = omega (arith, one-call.stands, e)
 
 -- what the call gave, and what was then done
-pub record Turn (file : List ℕ) (m₀ : Memories) (session : Record) (mem : Memories) (host : Run) (held : Result Held ℕ) (room : List ℕ) (a : machine.Returned Memories) (held' : Result Held ℕ) (host' : Run) : Type 0 where
+pub record Turn (file : List ℕ) (m₀ : Memories) (session : Record) (mem : Memories) (host : Run) (held : Result Held ℕ) (room : List ℕ) (a : machine.GivenBack Memories) (held' : Result Held ℕ) (host' : Run) : Type 0 where
   pub going : Playing file m₀ session mem host held room
   pub is : a ≡ result_of device.uartboot session mem host.bytes.now room
   pub holds : Holds held (take a.report.sent a.reply) held'
@@ -129,7 +129,7 @@ pub turned : {file : List ℕ} {m₀ : Memories} {session : Record} {mem : Memor
 turned p report reply ram flash work is held' holds host' leaves same_ram same_flash same_work long =
     record { going = p; is = is; holds = holds; leaves = leaves; keeps = record { same_ram = same_ram; same_flash = same_flash; same_work = same_work }; long = long }
 
-module _ {file : List ℕ} {m₀ : Memories} {session : Record} {mem : Memories} {host : Run} {held : Result Held ℕ} {room : List ℕ} {a : machine.Returned Memories} {held' : Result Held ℕ} {host' : Run}
+module _ {file : List ℕ} {m₀ : Memories} {session : Record} {mem : Memories} {host : Run} {held : Result Held ℕ} {room : List ℕ} {a : machine.GivenBack Memories} {held' : Result Held ℕ} {host' : Run}
     (t : Turn file m₀ session mem host held room a held' host') where
   abbrev g : Playing file m₀ session mem host held room
   g = t.going
@@ -168,7 +168,7 @@ module _ {file : List ℕ} {m₀ : Memories} {session : Record} {mem : Memories}
 
   reached-after : Reached uartboot a.report.session a.memories
   reached-after =
-      subst (λ (x : machine.Returned Memories). Reached uartboot x.report.session x.memories) (sym t.is)
+      subst (λ (x : machine.GivenBack Memories). Reached uartboot x.report.session x.memories) (sym t.is)
       (called g.reached host.bytes.now room)
 
   pub goes_on : Playing file m₀ a.report.session a.memories host' held' a.reply
