@@ -8,7 +8,7 @@ ghost use Rattle.called.specs.Called.{called_of, words_after};
 
 use machine::Accepted;
 
-// The number 0 and what the call did, or a refusal's number and zeros.
+// The number 0 and what the call did, or a refusal's number and zeros, as C takes it.
 #[repr(C)]
 #[derive(Clone, Copy)]
 pub struct Called {

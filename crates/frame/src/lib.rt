@@ -25,7 +25,7 @@ pub const LONGEST_P: usize = 65_535;
 // The longest code of kind E.
 pub const LONGEST_E: usize = 131_071;
 
-// The number 0 and the frame's length, or a refusal's number and length 0.
+// The number 0 and the frame's length, or a refusal's number and length 0, as C takes it.
 #[repr(C)]
 #[derive(Clone, Copy)]
 pub struct Framed {

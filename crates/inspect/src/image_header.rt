@@ -10,7 +10,8 @@ use wire::range::place_in;
 // Where the version's field begins in the header.
 const VERSION: usize = 12;
 
-// The rule's number, 0 for a valid image, and what the header says. Where the header does not lie in the memory, zeros.
+// The rule's number, 0 for a valid image, and what the header says. Where the header does not lie in the memory,
+// zeros. C takes it so.
 #[repr(C)]
 #[derive(Clone, Copy, Debug, Default, PartialEq, Eq)]
 pub struct ImageRead {

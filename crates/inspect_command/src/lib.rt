@@ -10,7 +10,7 @@ use opcodes::{BAD_LENGTH, UNKNOWN_OPCODE, opcode_of};
 // The longest payload whose length two bytes can say.
 const LONGEST: usize = 65_535;
 
-// The number 0 and the command's numbers, 0 where it has none; or a refusal's number and zeros.
+// The number 0 and the command's numbers, 0 where it has none; or a refusal's number and zeros, as C takes it.
 #[repr(C)]
 #[derive(Clone, Copy)]
 pub struct CommandRead {

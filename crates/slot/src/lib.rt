@@ -13,7 +13,7 @@ use crate::product::product_at;
 use crate::refused::Refusal;
 use image::{Image, image_at};
 
-// The number 0 and slot 1 or 2, or a refusal's number and slot 0.
+// The number 0 and slot 1 or 2, or a refusal's number and slot 0, as C takes it.
 #[repr(C)]
 #[derive(Clone, Copy, Debug, PartialEq, Eq)]
 pub struct Selected {
