@@ -18,7 +18,7 @@ pub struct Called {
     pub sent: usize,
 }
 
-// A call's outcome for C, its record into the words. A refused call, by its number, doesn't write them.
+// A call's outcome for C, its record into the words. A refused call, which has a number, doesn't write them.
 pub fn hand_back(outcome: Result<Accepted, u32>, words: &mut [u32; 8]) -> Called
     ensures value { result ≡ called_of (told (λ number. number) (record_of words.old) outcome) }
     ensures words_after { words.new ≡ words_after outcome words.old }

@@ -22,7 +22,7 @@ use wire::unit::{FlashOffset, RAM_BASE, RamAddress};
 pub const VERIFY_DIFFERS: u32 = 18;
 
 // How a command ends: without an answer, with an answer of n bytes at the front of the work buffer, with code running at an
-// address, or with a reason, whose number the definition `executed` has too.
+// address, or with a reason, as a number, since the definition `executed` has that number.
 #[derive(Clone, Copy)]
 pub enum Ending {
     Silent,

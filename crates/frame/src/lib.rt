@@ -139,7 +139,7 @@ pub fn write_frame(kind: Kind, code: &[u8], out: &mut [u8]) -> Result<usize, Ref
     Ok(length)
 }
 
-// The same, as C gets it.
+// Writes the boot frame of a code, as C gets it.
 pub fn frame(kind: Kind, code: &[u8], out: &mut [u8]) -> Framed
     ensures { written result out.new ≡ framed_of kind code.now out.old }
 {

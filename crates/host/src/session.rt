@@ -14,11 +14,12 @@ use host_flow::ask::{Ask, ask_of};
 use host_flow::step::Step;
 use host_record::{decode, encode};
 use host_turn::{look, send, take};
-use machine::stop::{Place, Standing, Stop};
+use machine::stop::{Reached, Standing, Stop};
 use machine::{Accepted, Record};
 
 // Acts until a byte or room is missing, or the command is over. After a look it is over.
-// One loop per session: in a trait the memories would be `&mut` fields, and its clauses on their names are longer than the loop.
+// Each session has its own loop: shared in a trait, each method would have to promise that the lent memories stay the ones it was given,
+// which takes longer than the loop.
 fn act(
     x: Exchange,
     first: Step,
@@ -32,7 +33,7 @@ fn act(
     requires ready { Ready first (lent x.opcode payload.now answer.old) }
     ensures { ActedTo host (state first reason (lent x.opcode payload.now answer.old)) input.now output.old result (state result.at.step result.at.reason (lent x.opcode payload.now answer.new)) output.new }
 {
-    let mut at = Place::start(first, reason);
+    let mut at = Reached::start(first, reason);
     loop {
         match ask_of(x, at.step) {
             Ask::Take(taking) => {

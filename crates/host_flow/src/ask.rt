@@ -40,7 +40,7 @@ pub enum Sending {
 }
 
 // Bytes to take, something to send, a look at the next byte, or nothing since the command is over.
-// Not the machine's Ask, which has no look: its turn may take nothing, and the command is over after it.
+// Not the machine's Ask, which has no look: a look may take nothing, and the command is over after it.
 #[derive(Clone, Copy)]
 pub enum Ask {
     Take(Taking),

@@ -7,7 +7,7 @@ use wire::length::{BAD_FLASH, BAD_RAM, BAD_WORK};
 // The number given for an unsound record.
 pub const BAD_RECORD: u32 = 4;
 
-// What is tested of the lengths of the lent memories, and of the record, which comes last.
+// A memory of a length that it may not have, or an unsound record.
 #[derive(Clone, Copy, Debug, PartialEq, Eq)]
 pub enum Refusal {
     WorkLength,

@@ -28,7 +28,7 @@ impl From<Standing> for u32 {
 
 // How far a call has come: its next step with the last reason, and how many bytes it took and sent.
 #[derive(Clone, Copy)]
-pub struct Place<S> {
+pub struct Reached<S> {
     pub step: S,
     pub reason: u32,
     pub taken: usize,
@@ -38,15 +38,15 @@ pub struct Place<S> {
 // Where a call stopped, and why.
 #[derive(Clone, Copy)]
 pub struct Stop<S> {
-    pub at: Place<S>,
+    pub at: Reached<S>,
     pub standing: Standing,
 }
 
-impl<S: Copy> Place<S> {
-    pub fn start(step: S, reason: u32) -> Place<S>
+impl<S: Copy> Reached<S> {
+    pub fn start(step: S, reason: u32) -> Reached<S>
         ensures { result ≡ record { step = step; reason = reason; taken = 0; sent = 0 } }
     {
-        Place {
+        Reached {
             step,
             reason,
             taken: 0,

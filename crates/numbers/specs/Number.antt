@@ -30,3 +30,7 @@ number_at width bytes place = number_of (take width (drop place bytes))
 -- the same where all these bytes are there, and else that they are missing
 unfoldable pub read_at : (width : ℕ) (bytes : List ℕ) (place : ℕ) → Option ℕ
 read_at width bytes place = cond (leb (place + width) (length bytes)) (Some (number_at width bytes place)) None
+
+-- the same of up to 4 bytes; of more, none
+abbrev pub read_narrow : (width : ℕ) (bytes : List ℕ) (place : ℕ) → Option ℕ
+read_narrow width bytes place = cond (leb width 4) (read_at width bytes place) None

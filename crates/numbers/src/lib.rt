@@ -2,7 +2,7 @@
 #![tactic(auto)]
 
 ghost use Rattle.std.specs.Prelude.{◌≡◌, ◌+◌, ◌≤◌, length};
-ghost use Rattle.numbers.specs.Number.{number_at, read_at, paired, low_byte, high_byte};
+ghost use Rattle.numbers.specs.Number.{number_at, read_narrow, paired, low_byte, high_byte};
 
 use wire::range::place_in;
 
@@ -19,11 +19,14 @@ pub fn number_at<const WIDTH: usize>(bytes: &[u8], place: usize) -> u32
     u32::from_le_bytes(word)
 }
 
-// The number in the WIDTH bytes from any place on.
+// The number in the WIDTH bytes from any place on, of up to 4.
+#[tactic(auto, unfolding(crate::specs::Number::read_at, wire::specs::Range::place_in, wire::specs::Range::lies_in))]
 pub fn read_at<const WIDTH: usize>(bytes: &[u8], place: usize) -> Option<u32>
-    requires narrow { WIDTH ≤ 4 }
-    ensures { result ≡ read_at WIDTH bytes.now place }
+    ensures { result ≡ read_narrow WIDTH bytes.now place }
 {
+    if 4 < WIDTH {
+        return None;
+    }
     let at = place_in(place, WIDTH, 0, bytes.len())?;
     Some(number_at::<WIDTH>(bytes, at))
 }

@@ -14,7 +14,7 @@ pub struct Run<'a> {
 }
 
 impl<'a> Run<'a> {
-    // The first one of a kind among these entries.
+    // The bytes of the first entry of a kind that has any; where there is none, no bytes and no entries.
     pub fn first(kind: Kind, entries: &'a [u8]) -> Run<'a>
         requires { Readable entries.now }
         ensures { Leaves kind (left_from (kind_number kind) entries.now) result }
@@ -34,7 +34,7 @@ impl<'a> Run<'a> {
         }
     }
 
-    // What is left past the first `count` bytes.
+    // What is left past the first `count` bytes; where that is none, the next bytes of the kind.
     pub fn past(self, count: usize) -> Run<'a>
         requires run { IsRun self }
         requires count_bound { count ≤ length self.bytes.now }

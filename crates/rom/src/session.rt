@@ -9,7 +9,7 @@ ghost use Rattle.rom_flow.specs.Sound.{Ready};
 
 use machine::ask::Ask;
 use machine::refusal::Refusal;
-use machine::stop::{Place, Standing, Stop};
+use machine::stop::{Reached, Standing, Stop};
 use machine::{Accepted, Record};
 use rom_flow::ask::ask_of;
 use rom_flow::kind::Kind;
@@ -19,7 +19,8 @@ use rom_turn::{send, take};
 use wire::length::is_ram_length;
 
 // Acts until a byte or room is missing, or code runs.
-// One loop per session: in a trait the memories would be `&mut` fields, and its clauses on their names are longer than the loop.
+// Each session has its own loop: shared in a trait, each method would have to promise that the lent memories stay the ones it was given,
+// which takes longer than the loop.
 fn act(
     kind: Kind,
     first: Step,
@@ -31,7 +32,7 @@ fn act(
     requires { Ready kind first ram.old }
     ensures { ActedTo receiver (state kind first reason ram.old) input.now reply.old result (state kind result.at.step result.at.reason ram.new) reply.new }
 {
-    let mut at = Place::start(first, reason);
+    let mut at = Reached::start(first, reason);
     loop {
         match ask_of(at.step) {
             Ask::Take(taking) => {

@@ -59,7 +59,7 @@ fn slot_at(flash: &[u8], offset: u32) -> Result<u32, Refusal>
     )
 }
 
-// That slot by value, or a refusal's number, as C takes it.
+// The slot that will start, by the product header at an offset of the flash, as C takes it.
 pub fn select(flash: &[u8], offset: u32) -> Selected
     ensures { result ≡ select_of flash.now offset }
 {

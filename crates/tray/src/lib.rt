@@ -59,7 +59,7 @@ fn put_entries(fields: &[u8], ranks: &mut [u32])
     requires { length (entries_of fields.now) ≤ length ranks.old }
     ensures { ranks.new ≡ laid (entries_of fields.now) ranks.old }
 {
-    // The library says nothing of what a slice ends as whose mutable chunks were lent, so the place in the room is counted.
+    // The place in the room is counted: by `chunks_exact_mut` nothing would be known of the room afterwards.
     let (each, _) = fields.as_chunks::<FIELD>();
     for (place, field) in each.iter().enumerate() {
         put_entry(rank(field), &mut ranks[place * ENTRY..]);

@@ -11,7 +11,7 @@ ghost use Rattle.uartboot.specs.Session.{refusal_of, uartboot, given_back};
 
 use machine::ask::Ask;
 use machine::refusal::Refusal;
-use machine::stop::{Place, Standing, Stop};
+use machine::stop::{Reached, Standing, Stop};
 use machine::{Accepted, Record};
 use uartboot_flow::ask::ask_of;
 use uartboot_flow::step::Step;
@@ -20,7 +20,8 @@ use uartboot_turn::{send, take};
 use wire::length::{is_flash_length, is_ram_length, is_work_length};
 
 // Acts until a byte or room is missing, or code runs.
-// One loop per session: in a trait the memories would be `&mut` fields, and its clauses on their names are longer than the loop.
+// Each session has its own loop: shared in a trait, each method would have to promise that the lent memories stay the ones it was given,
+// which takes longer than the loop.
 fn act(
     first: Step,
     reason: u32,
@@ -33,7 +34,7 @@ fn act(
     requires { Ready first (memories ram.old flash.old work.old) }
     ensures { ActedTo device (state first reason (memories ram.old flash.old work.old)) input.now reply.old result (state result.at.step result.at.reason (memories ram.new flash.new work.new)) reply.new }
 {
-    let mut at = Place::start(first, reason);
+    let mut at = Reached::start(first, reason);
     loop {
         match ask_of(at.step) {
             Ask::Take(taking) => {
@@ -57,7 +58,7 @@ fn act(
     }
 }
 
-// Tests the lengths of the memories, in this order.
+// Tests the lengths of the memories: the work buffer's first, then RAM's, then that of flash.
 pub fn check_lengths(ram: usize, flash: usize, work: usize) -> Result<(), Refusal>
     ensures { outcome_number refusal_number result ≡ refusal_of ram flash work }
 {

@@ -67,7 +67,7 @@ pub fn numbers(field: &[u8]) -> Option<Rank>
     None
 }
 
-// The same, as C gets it.
+// The rank of a version field, as C gets it.
 #[tactic(auto, unfolding(crate::specs::Rank::rank_of))]
 pub fn rank(field: &[u8]) -> Ranked
     ensures { result ≡ rank_of field.now }

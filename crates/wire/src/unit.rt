@@ -7,7 +7,7 @@ use crate::range::place_in;
 // The address of RAM's first byte.
 pub const RAM_BASE: u32 = 0x07FC_0000;
 
-// Two structs: an alias of one over its base could not be called as `RamAddress(n)`, and a trait would be longer than these two calls.
+// Two structs, each with its `place`: a trait with the first address as a constant would be longer than these two calls.
 
 // An address in RAM.
 #[derive(Clone, Copy)]
