@@ -45,7 +45,11 @@ pub fn command_of(opcode: Opcode, count: u32, work: &[u8]) -> Command
     match opcode {
         Opcode::Write => Command::Write(address_at(work, 0), count - opcode.data_place()),
         Opcode::Read => Command::Read(address_at(work, 0), number_at::<2>(work, 4)),
-        Opcode::Copy => Command::Copy(address_at(work, 0), number_at::<2>(work, 4), offset_at(work, 6)),
+        Opcode::Copy => Command::Copy(
+            address_at(work, 0),
+            number_at::<2>(work, 4),
+            offset_at(work, 6),
+        ),
         Opcode::Erase => Command::Erase(offset_at(work, 0), number_at::<4>(work, 4)),
         Opcode::Run => Command::Run(address_at(work, 0)),
         Opcode::ReadQspi => Command::ReadQspi(offset_at(work, 0), number_at::<2>(work, 4)),

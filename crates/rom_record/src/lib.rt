@@ -88,7 +88,9 @@ fn running_in(size: u32, address: u32) -> Option<Step>
     ensures { result ≡ running_in size address }
 {
     let address = RamAddress(address);
-    address.is_in(size as usize).then_some(Step::Running(address))
+    address
+        .is_in(size as usize)
+        .then_some(Step::Running(address))
 }
 
 // A step that only kind E has.
