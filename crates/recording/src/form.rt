@@ -46,9 +46,9 @@ pub enum Kind {
 }
 
 // The bytes that say a kind.
-const HOST: u8 = 1;
+pub const HOST: u8 = 1;
 
-const DEVICE: u8 = 2;
+pub const DEVICE: u8 = 2;
 
 impl From<Kind> for u8 {
     ghost from_gives = { λ kind number. number ≡ kind_number kind };

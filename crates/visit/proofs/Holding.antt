@@ -12,13 +12,15 @@ use lib.Seq.{drop-cons}
 use borrow.Author.Tests.{ltb-true, ltb-false}
 use borrow.Table.Steps.{cases}
 use denote.Bor.{Bor}
-use Rattle.std.specs.Prelude.{Option, None, Some, slice_get, Result, Ok, Err}
+use Rattle.std.specs.Prelude.{Option, None, Some, slice_get, Result, Ok, Err, IfOk}
+use Rattle.std.proofs.lemmas.Result.{IfOk-at_ok}
 use Rattle.std.specs.Option.{option_eq, option_copied}
-use Rattle.recording.specs.Left.{left_in, IsRun, Leaves}
+use Rattle.recording.specs.Left.{left_in, IsRun, Leaves, StaysIn}
 use Rattle.recording.specs.declared.run.Run.{Run}
 use Rattle.recording.proofs.Runs.{empty, first-left, none_left}
+use Rattle.recording.proofs.Parts.{lies-from}
 use Rattle.visit.specs.Compared.{differs, compared_from}
-use Rattle.visit.specs.Held.{is_next, verdict_of, IsHeld, Holds}
+use Rattle.visit.specs.Held.{is_next, verdict_of, IsHeld, HeldIn, Holds}
 use Rattle.visit.specs.Replay.{answer_of}
 use Rattle.visit.specs.declared.held.Held.{Held}
 
@@ -26,17 +28,18 @@ abbrev pub held_of : (run : Run) (place : ℕ) → Held
 held_of run place = record { run = run; place = place }
 
 -- a byte held to the next of a run, both behind references
-same-next : (next : Option (Bor ℕ)) (byte : Bor ℕ) → option_eq (λ (x y : Bor ℕ). eqb x.now y.now) next (Some byte) ≡ option_eq eqb (option_copied next) (Some byte.now)
+pub same-next : (next : Option (Bor ℕ)) (byte : Bor ℕ) → option_eq (λ (x y : Bor ℕ). eqb x.now y.now) next (Some byte) ≡ option_eq eqb (option_copied next) (Some byte.now)
 same-next None byte = refl
 same-next (Some next) byte = refl
 
-pub next-is : (run : Run) → IsRun run → (next : Option (Bor ℕ)) → option_copied next ≡ slice_get run.bytes.now 0 → (byte : Bor ℕ) →
-    option_eq (λ (x y : Bor ℕ). eqb x.now y.now) next (Some byte) ≡ is_next byte.now (left_in run)
-next-is run is next first at = same-next next at ∙ ap (λ (o : Option ℕ). option_eq eqb o (Some at.now)) first ∙ go run.bytes.now refl
+pub next-is : (byte : ℕ) (run : Run) → IsRun run → is_next byte (left_in run) ≡ option_eq eqb (slice_get run.bytes.now 0) (Some byte)
+next-is byte run is = go run.bytes.now refl
   where
-    go : (bytes : List ℕ) → run.bytes.now ≡ bytes → option_eq eqb (slice_get bytes 0) (Some at.now) ≡ is_next at.now (left_in run)
+    go : (bytes : List ℕ) → run.bytes.now ≡ bytes → is_next byte (left_in run) ≡ option_eq eqb (slice_get bytes 0) (Some byte)
     go [] e = rw (none_left run is e) refl
     go (next ∷ bytes) e = rw (first-left run (omega (arith, ap length e))) (rw e refl)
+
+pub ruleset nexts = (next-is, same-next)
 
 -- of no bytes none is next
 never-next : (byte : ℕ) → is_next byte [] ≡ true → ⊥
@@ -55,18 +58,19 @@ agrees-here place (next ∷ left) byte more e = rw e refl
 pub record Going (held : Result Held ℕ) (replies : List ℕ) (i : ℕ) (now : Held) : Type 0 where
   pub is_held : IsHeld now
   pub verdict : (more : List ℕ) → verdict_of held (replies ++ more) ≡ compared_from now.place (left_in now.run) (drop i replies ++ more)
+  pub lies : (whole : Bor (List ℕ)) (from : ℕ) → IfOk held (HeldIn whole from) → HeldIn whole from now
 
 -- none yet; a comparison that is over stays
 pub going-first : (held : Result Held ℕ) (replies : List ℕ) (now : Held) → held ≡ Ok now → IsHeld now → Going held replies 0 now
-going-first held replies now e h = record { is_held = h; verdict = λ more. rw e refl }
+going-first held replies now e h = record { is_held = h; verdict = λ more. rw e refl; lies = λ whole from l. IfOk-at_ok (HeldIn whole from) e l }
 
 pub settled : (held : Result Held ℕ) (replies : List ℕ) (place : ℕ) → held ≡ Err place → Holds held replies (Err place)
-settled held replies place e = record { is_held = tt; verdict = λ more. rw e refl }
+settled held replies place e = record { is_held = tt; verdict = λ more. rw e refl; lies = λ whole from l. tt }
 
 module _ {held : Result Held ℕ} {replies : List ℕ} {i : ℕ} {now : Held} (g : Going held replies i now) where
   -- all agreed
   pub all-agreed : length replies ≤ i → Holds held replies (Ok now)
-  all-agreed h = record { is_held = g.is_held; verdict = λ more. g.verdict more ∙ rw (drop_of_length-le replies h) refl }
+  all-agreed h = record { is_held = g.is_held; verdict = λ more. g.verdict more ∙ rw (drop_of_length-le replies h) refl; lies = g.lies }
 
   module _ (there : i < length replies) (byte : ℕ) (is : byte ≡ get_or replies i 0) where
     -- the next reply
@@ -79,6 +83,7 @@ module _ {held : Result Held ℕ} {replies : List ℕ} {i : ℕ} {now : Held} (g
         record {
           is_held = tt;
           verdict = λ more. g.verdict more ∙ rw (next more) (differs-here now.place (left_in now.run) byte (drop (suc i) replies ++ more) e);
+          lies = λ whole from l. tt;
         }
 
     -- it is
@@ -96,8 +101,8 @@ module _ {held : Result Held ℕ} {replies : List ℕ} {i : ℕ} {now : Held} (g
       pub place-fits : now.place + 1 < 2 ^ 64
       place-fits = omega (arith, some-left, g.is_held.counted)
 
-      pub same_byte : (run : Run) → Leaves now.run.kind (drop 1 (left_in now.run)) run → Going held replies (i + 1) (held_of run (now.place + 1))
-      same_byte run l =
+      pub same_byte : (run : Run) → Leaves now.run.kind (drop 1 (left_in now.run)) run → StaysIn 1 now.run run → Going held replies (i + 1) (held_of run (now.place + 1))
+      same_byte run l stays =
           record {
             is_held = record {
               is_run = l.is_run;
@@ -109,6 +114,7 @@ module _ {held : Result Held ℕ} {replies : List ℕ} {i : ℕ} {now : Held} (g
                 ∙ ap (compared_from now.place (left_in now.run)) (next more)
                 ∙ agrees-here now.place (left_in now.run) byte (drop (suc i) replies ++ more) e
                 ∙ rw (← l.left_is, ← add-one i, ← add-one now.place) refl;
+            lies = λ whole from h. lies-from (from + (now.place + 1)) (omega arith) (stays.lies whole (from + now.place) (g.lies whole from h));
           }
 
 -- the answer where no more replies come

@@ -7,6 +7,8 @@ use mathlib.Core.List.{List, ◌++◌}
 use lib.Dec.{ltb}
 use lib.ListN.{length, take, drop, length-append, length-drop}
 use lib.Seq.{length-take-le}
+use denote.Bor.{Bor}
+use borrow.Rule.Slice.PartAt.{sl_partˢ}
 use borrow.Author.Tests.{ltb-true, ltb-false}
 use borrow.Table.Steps.{cases}
 use Rattle.std.specs.Prelude.{Result, Ok, IfOk}
@@ -15,7 +17,7 @@ use Rattle.machine.specs.Session as machine
 use Rattle.machine.specs.Session.{result_of}
 use Rattle.machine.specs.Listing.{Given}
 use Rattle.machine.specs.declared.Record.{Record}
-use Rattle.machine.specs.Session.{Report}
+use Rattle.machine.specs.declared.Report.{Report}
 use Rattle.uartboot.specs.Session as device
 use Rattle.uartboot_flow.specs.Fresh.{fresh_record}
 use Rattle.sessions.specs.Kind.{uartboot}
@@ -23,13 +25,13 @@ use Rattle.sessions.specs.Definition.{definition}
 use Rattle.sessions.specs.Onward.{Reached, fresh, called, nothing, onward, Call}
 use Rattle.sessions.proofs.Onward.{piece-by-piece}
 use Rattle.recording.specs.Form.{host_kind, device_kind, head_length}
-use Rattle.recording.specs.Left.{left_from, left_in, IsRun, Leaves}
-use Rattle.recording.specs.declared.form.Kind.TheVariants.{Host, Device}
+use Rattle.recording.specs.Left.{left_from, left_in, IsRun, Leaves, LiesIn}
 use Rattle.recording.specs.declared.run.Run.{Run}
 use Rattle.recording.proofs.Entries.{joined-short}
 use Rattle.recording.proofs.Runs.{empty, first-left, none_left, run-shown}
+use Rattle.recording.proofs.Parts.{lies-past}
 use Rattle.visit.specs.Compared.{compared_from, compared}
-use Rattle.visit.specs.Held.{verdict_of, IsHeld, Holds}
+use Rattle.visit.specs.Held.{verdict_of, IsHeld, HeldIn, Holds}
 use Rattle.visit.specs.Played.{Playable, Played}
 use Rattle.visit.specs.declared.held.Held.{Held}
 use Rattle.visit.proofs.Holding.{held_of}
@@ -49,7 +51,8 @@ given_for file m₀ = definition uartboot m₀ (left_from host_kind (drop head_l
 abbrev pub recorded : (file : List ℕ) → List ℕ
 recorded file = left_from device_kind (drop head_length file)
 
-pub record Playing (file : List ℕ) (m₀ : Memories) (session : Record) (mem : Memories) (host : Run) (held : Result Held ℕ) (room : List ℕ) : Type 0 where
+-- `begun` is the comparison at the beginning
+pub record Playing (file : List ℕ) (m₀ : Memories) (begun : Result Held ℕ) (session : Record) (mem : Memories) (host : Run) (held : Result Held ℕ) (room : List ℕ) : Type 0 where
   pub reached : Reached uartboot session mem
   pub same : SameLengths mem m₀
   pub is-host : IsRun host
@@ -57,17 +60,18 @@ pub record Playing (file : List ℕ) (m₀ : Memories) (session : Record) (mem :
   pub long : length room ≡ 1024
   pub verdict : compared (recorded file) (given_for file m₀).replies ≡ verdict_of held (to_come session mem host)
   pub memories_are : (onward device.uartboot session mem (left_in host)).memories ≡ (given_for file m₀).memories
+  pub lies : (whole : Bor (List ℕ)) (from : ℕ) → IfOk begun (HeldIn whole from) → IfOk held (HeldIn whole from)
 
 -- before the first call
 pub begins : (file : List ℕ) (m₀ : Memories) (session : Record) (host run : Run) (room : List ℕ) → Playable file m₀ → session ≡ fresh_record →
     (entries : List ℕ) → entries ≡ drop head_length file →
-    Leaves Host (left_from host_kind entries) host →
-    Leaves Device (left_from device_kind entries) run →
-    length room ≡ 1024 → length file < 2 ^ 64 → Playing file m₀ session m₀ host (Ok (held_of run 0)) room
+    Leaves host_kind (left_from host_kind entries) host →
+    Leaves device_kind (left_from device_kind entries) run →
+    length room ≡ 1024 → length file < 2 ^ 64 → Playing file m₀ (Ok (held_of run 0)) session m₀ host (Ok (held_of run 0)) room
 unfolding compared
 begins file m₀ session host run room p e entries all h₀ d₀ long fits =
-    let h : Leaves Host (left_from host_kind (drop head_length file)) host = rw all at h₀ in
-    let d : Leaves Device (recorded file) run = rw all at d₀ in
+    let h : Leaves host_kind (left_from host_kind (drop head_length file)) host = rw all at h₀ in
+    let d : Leaves device_kind (recorded file) run = rw all at d₀ in
     let starts = (piece-by-piece uartboot).starts m₀ (left_from host_kind (drop head_length file)) p.fits in
     let still : onward device.uartboot session m₀ (left_in host) ≡ given_for file m₀ =
     ap (λ r. onward device.uartboot r m₀ (left_in host)) e ∙ ap (λ stream. onward device.uartboot fresh_record m₀ stream) h.left_is ∙ starts in
@@ -85,11 +89,16 @@ begins file m₀ session host run room p e entries all h₀ d₀ long fits =
           ap (λ (d : Given Memories). compared (recorded file) d.replies) (sym still)
           ∙ ap (λ left. compared_from 0 left (to_come session m₀ host)) (sym d.left_is);
       memories_are = ap (λ (d : Given Memories). d.memories) still;
+      lies = λ whole from l. l;
     }
 
+pub begun-lies : (file : Bor (List ℕ)) (run : Run) → head_length ≤ length file.now →
+    LiesIn (sl_partˢ file (head_length + file.ref_ptr.1) head_length (length file.now)) 0 run → HeldIn file head_length (held_of run 0)
+begun-lies file run inside l = lies-past file head_length inside l
+
 -- a call that is shown the run
-module _ {file : List ℕ} {m₀ : Memories} {session : Record} {mem : Memories} {host : Run} {held : Result Held ℕ} {room : List ℕ}
-    (g : Playing file m₀ session mem host held room)
+module _ {file : List ℕ} {m₀ : Memories} {begun : Result Held ℕ} {session : Record} {mem : Memories} {host : Run} {held : Result Held ℕ} {room : List ℕ}
+    (g : Playing file m₀ begun session mem host held room)
     (a : machine.GivenBack Memories) (is : a ≡ result_of device.uartboot session mem host.bytes.now room)
     (long : length a.reply ≡ length room) where
   by-definition : result_of device.uartboot session mem (take (length host.bytes.now) (left_in host)) room ≡ a
@@ -109,8 +118,8 @@ module _ {file : List ℕ} {m₀ : Memories} {session : Record} {mem : Memories}
   never-refused e = omega (arith, one-call.stands, e)
 
 -- what the call gave, and what was then done
-pub record Turn (file : List ℕ) (m₀ : Memories) (session : Record) (mem : Memories) (host : Run) (held : Result Held ℕ) (room : List ℕ) (a : machine.GivenBack Memories) (held' : Result Held ℕ) (host' : Run) : Type 0 where
-  pub going : Playing file m₀ session mem host held room
+pub record Turn (file : List ℕ) (m₀ : Memories) (begun : Result Held ℕ) (session : Record) (mem : Memories) (host : Run) (held : Result Held ℕ) (room : List ℕ) (a : machine.GivenBack Memories) (held' : Result Held ℕ) (host' : Run) : Type 0 where
+  pub going : Playing file m₀ begun session mem host held room
   pub is : a ≡ result_of device.uartboot session mem host.bytes.now room
   pub holds : Holds held (take a.report.sent a.reply) held'
   pub leaves : Leaves host.kind (drop a.report.taken (left_in host)) host'
@@ -118,20 +127,20 @@ pub record Turn (file : List ℕ) (m₀ : Memories) (session : Record) (mem : Me
   pub long : length a.reply ≡ length room
 
 -- from what the program's calls say of their values
-pub turned : {file : List ℕ} {m₀ : Memories} {session : Record} {mem : Memories} {host : Run} {held : Result Held ℕ} {room : List ℕ}
-    → Playing file m₀ session mem host held room
+pub turned : {file : List ℕ} {m₀ : Memories} {begun : Result Held ℕ} {session : Record} {mem : Memories} {host : Run} {held : Result Held ℕ} {room : List ℕ}
+    → Playing file m₀ begun session mem host held room
     → (report : Report) (reply ram flash work : List ℕ)
     → record { report = report; reply = reply; memories = memories ram flash work } ≡ result_of device.uartboot session mem host.bytes.now room
     → (held' : Result Held ℕ) → Holds held (take report.sent reply) held'
     → (host' : Run) → Leaves host.kind (drop report.taken (left_in host)) host'
     → length ram ≡ length mem.ram → length flash ≡ length mem.flash → length work ≡ length mem.work → length reply ≡ length room
-    → Turn file m₀ session mem host held room (record { report = report; reply = reply; memories = memories ram flash work }) held' host'
+    → Turn file m₀ begun session mem host held room (record { report = report; reply = reply; memories = memories ram flash work }) held' host'
 turned p report reply ram flash work is held' holds host' leaves same_ram same_flash same_work long =
     record { going = p; is = is; holds = holds; leaves = leaves; keeps = record { same_ram = same_ram; same_flash = same_flash; same_work = same_work }; long = long }
 
-module _ {file : List ℕ} {m₀ : Memories} {session : Record} {mem : Memories} {host : Run} {held : Result Held ℕ} {room : List ℕ} {a : machine.GivenBack Memories} {held' : Result Held ℕ} {host' : Run}
-    (t : Turn file m₀ session mem host held room a held' host') where
-  abbrev g : Playing file m₀ session mem host held room
+module _ {file : List ℕ} {m₀ : Memories} {begun : Result Held ℕ} {session : Record} {mem : Memories} {host : Run} {held : Result Held ℕ} {room : List ℕ} {a : machine.GivenBack Memories} {held' : Result Held ℕ} {host' : Run}
+    (t : Turn file m₀ begun session mem host held room a held' host') where
+  abbrev g : Playing file m₀ begun session mem host held room
   g = t.going
 
   abbrev h : Holds held (take a.report.sent a.reply) held'
@@ -171,7 +180,11 @@ module _ {file : List ℕ} {m₀ : Memories} {session : Record} {mem : Memories}
       subst (λ (x : machine.GivenBack Memories). Reached uartboot x.report.session x.memories) (sym t.is)
       (called g.reached host.bytes.now room)
 
-  pub goes_on : Playing file m₀ a.report.session a.memories host' held' a.reply
+  -- it lies where it lay
+  pub still-lies : (whole : Bor (List ℕ)) (from : ℕ) → IfOk begun (HeldIn whole from) → IfOk held' (HeldIn whole from)
+  still-lies whole from l = h.lies whole from (g.lies whole from l)
+
+  pub goes_on : Playing file m₀ begun a.report.session a.memories host' held' a.reply
   goes_on =
       record {
         reached = reached-after;
@@ -185,6 +198,7 @@ module _ {file : List ℕ} {m₀ : Memories} {session : Record} {mem : Memories}
         long = t.long ∙ g.long;
         verdict = verdict-after;
         memories_are = memories-after;
+        lies = still-lies;
       }
 
   -- nothing is still to come

@@ -1,8 +1,9 @@
 -- A comparison on its way, for a program that gets the replies piece by piece.
 -- Assumes nothing.
 use Rattle.std.specs.Prelude.{ℕ, ◌+◌, ◌^◌, ◌<◌, ◌≡◌, Bool, false, List, [], ◌∷◌, ◌++◌, eqb, length, Result, Ok, Err, IfOk}
-use Rattle.recording.specs.Left.{left_in, IsRun}
-use Rattle.recording.specs.declared.form.Kind.TheVariants.{Device}
+use Rattle.std.specs.Borrow.{Bor}
+use Rattle.recording.specs.Form.{device_kind}
+use Rattle.recording.specs.Left.{left_in, IsRun, LiesIn}
 use Rattle.visit.specs.Compared.{Verdict, differs, compared_from}
 use Rattle.visit.specs.declared.held.Held.{Held}
 
@@ -19,10 +20,15 @@ verdict_of (Err place) more = differs place
 -- it has come to a run of the device's, and counts no more bytes than a memory holds
 pub record IsHeld (held : Held) : Type 0 where
   pub is_run : IsRun held.run
-  pub of_device : held.run.kind ≡ Device
+  pub of_device : held.run.kind ≡ device_kind
   pub counted : held.place + length (left_in held.run) < 2 ^ 64
 
--- some replies further on
+-- its run lies in lent bytes, so far past `from` at least as bytes were counted
+abbrev pub HeldIn : (whole : Bor (List ℕ)) (from : ℕ) → Held → Type 0
+HeldIn whole from held = LiesIn whole (from + held.place) held.run
+
+-- some replies further on, in whatever its run lies
 pub record Holds (held : Result Held ℕ) (replies : List ℕ) (next : Result Held ℕ) : Type 0 where
   pub is_held : IfOk next IsHeld
   pub verdict : (more : List ℕ) → verdict_of held (replies ++ more) ≡ verdict_of next more
+  pub lies : (whole : Bor (List ℕ)) (from : ℕ) → IfOk held (HeldIn whole from) → IfOk next (HeldIn whole from)

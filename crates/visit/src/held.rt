@@ -13,6 +13,7 @@ pub struct Held<'a> {
 }
 
 // Whether a byte is the next one of a run; where no bytes are left, none is.
+#[tactic(auto, using(crate::proofs::Holding::nexts))]
 fn is_next<'a>(run: Run<'a>, byte: u8) -> bool
     requires { IsRun run }
     ensures { result ≡ is_next byte (left_in run.entry) }

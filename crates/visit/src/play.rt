@@ -1,11 +1,14 @@
 // A recording's bytes played into a fresh session, one entry of the host after the other. Where its stream is cut never matters, which is
 // what demand 3 says, so what the calls reply and leave is what the definition gives for the joined bytes.
 ghost use Rattle.memory.specs.Memories.{memories};
+ghost use Rattle.std.specs.Prelude.{IfOk};
+ghost use Rattle.recording.specs.Form.{head_length};
+ghost use Rattle.visit.specs.Held.{HeldIn};
 ghost use Rattle.visit.specs.Played.{Playable, Played};
 
 use crate::held::{Held, hold};
 use machine::stop::Standing;
-use recording::form::{HEAD, Kind};
+use recording::form::{DEVICE, HEAD, HOST};
 use recording::run::Run;
 use uartboot::session::call;
 use uartboot_flow::kind::Uartboot;
@@ -21,14 +24,15 @@ pub fn play<'a>(
     work: &mut [u8],
 ) -> Result<Held<'a>, usize>
     requires { Playable file.now (memories ram.old flash.old work.old) }
-    ensures { Played file.now (memories ram.old flash.old work.old) result (memories ram.new flash.new work.new) }
+    ensures played { Played file.now (memories ram.old flash.old work.old) result (memories ram.new flash.new work.new) }
+    ensures lies { IfOk result (HeldIn file.entry head_length) }
 {
     let entries = &file[HEAD..];
     let mut room = [0u8; ROOM];
     let mut session = Uartboot::fresh();
-    let mut host = Run::first(Kind::Host, entries);
+    let mut host = Run::first(HOST, entries);
     let mut held = Ok(Held {
-        run: Run::first(Kind::Device, entries),
+        run: Run::first(DEVICE, entries),
         place: 0,
     });
     loop {

@@ -25,4 +25,4 @@ play-requires c = playable c.args.recording.now (memories c.args.ram.now c.args.
 pub returns : goal.returns
 returns c =
     good-file c.args.recording.now (memories c.args.ram.now c.args.flash.now c.args.work.now) c.answer.result (sym c.in_default.ensures) (sym c.in_default-check.ensures)
-    c.play.result (memories c.play.new.ram c.play.new.flash c.play.new.work) c.play.ensures c.answer.ensures
+    c.play.result (memories c.play.new.ram c.play.new.flash c.play.new.work) c.play.ensures.played c.answer.ensures

@@ -5,7 +5,7 @@ use Rattle.visit.proofs.Playing.{effort, Playing}
 use Rattle.visit.proofs.play.play.Given as goal
 
 abbrev pub invariant-loop-done : goal.invariant-loop-done
-invariant-loop-done l = Playing l.file (memories l.initial.ram l.initial.flash l.initial.work) l.session (memories l.ram l.flash l.work) l.host l.held l.room
+invariant-loop-done l = Playing l.file (memories l.initial.ram l.initial.flash l.initial.work) l.initial.held l.session (memories l.ram l.flash l.work) l.host l.held l.room
 
 abbrev pub decreases-loop-done : goal.decreases-loop-done
 decreases-loop-done l = effort l.session (memories l.ram l.flash l.work) l.host

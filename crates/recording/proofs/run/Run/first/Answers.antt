@@ -1,49 +1,55 @@
--- `recording::run::Run::first`: what is left from the entry on is what was left at first.
+-- `recording::run::Run::first`: what is left in the run is what was left at first, and it lies where the entries do.
 -- Assumes nothing.
-use Rattle.std.proofs.Common.{◌≡◌, ◌<◌, ◌≤◌, length, rules, arith, sym, ◌∙◌}
+use Rattle.std.proofs.Common.{◌+◌, ◌<◌, ◌≤◌, length, rules, arith, refl, ap}
 use Rattle.std.proofs.lemmas.Bool.Decides.{nat_tests}
-use Rattle.recording.specs.Form.{kind_in, kind_number}
-use Rattle.recording.proofs.Runs.{head-there, size-there, found, no_bytes, other_kind}
+use Rattle.recording.proofs.Runs.{head-there, past-there, own_kind, other_kind}
+use Rattle.recording.proofs.Parts.{lies-whole}
 use Rattle.recording.proofs.run.Run.first.Goals as goal
-use Rattle.recording.proofs.run.Run.first.Goals.{else-rest-from-via-then-rest-from+else-not-is_empty, else-rest-from-via-else-rest-from}
+use Rattle.recording.proofs.run.Run.first.Goals.{then-rest-kind, else-rest-kind}
 
-pub slice_bounds-split_at-count : goal.slice_bounds-split_at-count
-slice_bounds-split_at-count c =
-    let there : 0 < length c.loop-bytes.rest.now = grind (arith, nat_tests) in
-    head-there c.loop-bytes.invariant there
+pub size_in-past-requires : goal.size_in-past-requires
+size_in-past-requires c =
+    let none : length c.loop-rest.run.bytes.now ≤ 0 = grind (arith, nat_tests) in
+    let there : 0 < length c.loop-rest.run.after.now = grind (arith, nat_tests) in
+    head-there c.loop-rest.invariant none there
 
-pub slice_bounds-split_at-start : goal.slice_bounds-split_at-start
-slice_bounds-split_at-start c =
-    let there : 0 < length c.loop-bytes.rest.now = grind (arith, nat_tests) in
-    let inside = head-there c.loop-bytes.invariant there in
+pub overflow_add-past : goal.overflow_add-past
+overflow_add-past c =
+    let none : length c.loop-rest.run.bytes.now ≤ 0 = grind (arith, nat_tests) in
+    let there : 0 < length c.loop-rest.run.after.now = grind (arith, nat_tests) in
+    let inside = past-there c.loop-rest.invariant none there (3 + c.size_in-past.result) (ap (λ size. 3 + size) c.size_in-past.ensures) in
     search rules
 
-pub size_in-requires : goal.size_in-requires
-size_in-requires c =
-    let there : 0 < length c.loop-bytes.rest.now = grind (arith, nat_tests) in
-    head-there c.loop-bytes.invariant there
+pub slice_bounds-run-end-in-loop-rest : goal.slice_bounds-run-end-in-loop-rest
+slice_bounds-run-end-in-loop-rest c =
+    let none : length c.loop-rest.run.bytes.now ≤ 0 = grind (arith, nat_tests) in
+    let there : 0 < length c.loop-rest.run.after.now = grind (arith, nat_tests) in
+    past-there c.loop-rest.invariant none there (3 + c.size_in-past.result) (ap (λ size. 3 + size) c.size_in-past.ensures)
 
-pub split_at-requires : goal.split_at-requires
-split_at-requires c =
-    let there : 0 < length c.loop-bytes.rest.now = grind (arith, nat_tests) in
-    size-there c.loop-bytes.invariant there c.size_in.result c.size_in.ensures
+pub slice_bounds-run-count-in-loop-rest : goal.slice_bounds-run-count-in-loop-rest
+slice_bounds-run-count-in-loop-rest c =
+    let none : length c.loop-rest.run.bytes.now ≤ 0 = grind (arith, nat_tests) in
+    let there : 0 < length c.loop-rest.run.after.now = grind (arith, nat_tests) in
+    past-there c.loop-rest.invariant none there (3 + c.size_in-past.result) (ap (λ size. 3 + size) c.size_in-past.ensures)
 
-pub returns-then-not-is_empty : goal.returns-then-not-is_empty
-returns-then-not-is_empty c =
-    let there : 0 < length c.loop-bytes.rest.now = grind (arith, nat_tests) in
-    let s = c.split_at in
-    let kind : kind_in c.loop-bytes.rest.now ≡ kind_number c.args.kind = c.if-rest-from.true ∙ c.from.ensures in
-    let some : 0 < length s.result.0.now = grind (arith, nat_tests) in
-    found c.loop-bytes.invariant there c.size_in.result c.size_in.ensures s.result.0 s.result.1 s.ensures.front s.ensures.back kind some
+pub slice_bounds-run-start-in-loop-rest : goal.slice_bounds-run-start-in-loop-rest
+slice_bounds-run-start-in-loop-rest c =
+    let none : length c.loop-rest.run.bytes.now ≤ 0 = grind (arith, nat_tests) in
+    let there : 0 < length c.loop-rest.run.after.now = grind (arith, nat_tests) in
+    past-there c.loop-rest.invariant none there (3 + c.size_in-past.result) (ap (λ size. 3 + size) c.size_in-past.ensures)
 
-pub loop-bytes-preserved : goal.loop-bytes-preserved
-loop-bytes-preserved c =
-    let there : 0 < length c.loop-bytes.rest.now = grind (arith, nat_tests) in
-    let s = c.split_at in
-    elim c.else-rest-from.branch [
-      | else-rest-from-via-then-rest-from+else-not-is_empty w ↦
-          let none : length s.result.0.now ≤ 0 = grind (arith, nat_tests) in
-          no_bytes c.loop-bytes.invariant there c.size_in.result c.size_in.ensures s.result.0 s.result.1 s.ensures.front s.ensures.back (w.if-rest-from.true ∙ c.from.ensures) none
-      | else-rest-from-via-else-rest-from w ↦
-          other_kind c.loop-bytes.invariant there c.size_in.result c.size_in.ensures s.result.0 s.result.1 s.ensures.front s.ensures.back (λ e. w.if-rest-from.false (e ∙ sym c.from.ensures))
+pub loop-rest-preserved : goal.loop-rest-preserved
+loop-rest-preserved c =
+    let none : length c.loop-rest.run.bytes.now ≤ 0 = grind (arith, nat_tests) in
+    let there : 0 < length c.loop-rest.run.after.now = grind (arith, nat_tests) in
+    let past = ap (λ size. 3 + size) c.size_in-past.ensures in
+    elim c.if-rest-kind.branch [
+      | then-rest-kind w ↦ rw w.own-is (own_kind c.loop-rest.invariant none there _ past w.if-rest-kind.true)
+      | else-rest-kind w ↦ rw w.own-is (other_kind c.loop-rest.invariant none there _ past w.if-rest-kind.false)
     ]
+
+pub returns-else-not-is_empty-clause-lies : goal.returns-else-not-is_empty-clause-lies
+returns-else-not-is_empty-clause-lies c = c.loop-rest.invariant.stays.lies c.args.entries 0 (lies-whole c.args.kind _ c.args.entries refl (omega arith) refl)
+
+pub returns-after-loop-rest-clause-lies : goal.returns-after-loop-rest-clause-lies
+returns-after-loop-rest-clause-lies c = c.loop-rest.invariant.stays.lies c.args.entries 0 (lies-whole c.args.kind _ c.args.entries refl (omega arith) refl)

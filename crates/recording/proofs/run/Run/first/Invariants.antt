@@ -1,11 +1,11 @@
--- `recording::run::Run::first`: what is left from the entry on is what was left at first.
+-- `recording::run::Run::first`: what is left in the run is what was left at first, and it lies where the entries do.
 -- Assumes nothing.
 use lib.ListN.{length}
 use Rattle.recording.proofs.Runs.{Finding}
 use Rattle.recording.proofs.run.Run.first.Given as goal
 
-abbrev pub invariant-loop-bytes : goal.invariant-loop-bytes
-invariant-loop-bytes l = Finding l.kind l.entries l.rest
+abbrev pub invariant-loop-rest : goal.invariant-loop-rest
+invariant-loop-rest l = Finding l.kind l.entries l.initial.run l.run
 
-abbrev pub decreases-loop-bytes : goal.decreases-loop-bytes
-decreases-loop-bytes l = length l.rest
+abbrev pub decreases-loop-rest : goal.decreases-loop-rest
+decreases-loop-rest l = length l.run.after.now
