@@ -1,14 +1,12 @@
-// What C gets of a session call: a report by value, the record in eight words.
+// What C gets of a session call: the report by value, the record in eight words.
 #![tactic(auto)]
 
 ghost use Rattle.std.specs.Prelude.{◌≡◌};
-ghost use Rattle.machine.specs.Told.{told};
-ghost use Rattle.machine.specs.Words.{record_of};
 ghost use Rattle.called.specs.Called.{called_of, words_after};
 
-use machine::Accepted;
+use machine::Report;
 
-// The number 0 and what the call did, or a refusal's number and zeros, as C takes it.
+// A session call's report without its record, which C has in its eight words. Numbers and not a Result, since C takes them.
 #[repr(C)]
 #[derive(Clone, Copy)]
 pub struct Called {
@@ -18,26 +16,18 @@ pub struct Called {
     pub sent: usize,
 }
 
-// A call's outcome for C, its record into the words. A refused call, which has a number, doesn't write them.
-pub fn hand_back(outcome: Result<Accepted, u32>, words: &mut [u32; 8]) -> Called
-    ensures value { result ≡ called_of (told (λ number. number) (record_of words.old) outcome) }
-    ensures words_after { words.new ≡ words_after outcome words.old }
+// A call's report for C, its record into the words. A refused call, which has a number, doesn't write them.
+pub fn hand_back(report: Report, words: &mut [u32; 8]) -> Called
+    ensures value { result ≡ called_of report }
+    ensures words_after { words.new ≡ words_after report words.old }
 {
-    match outcome {
-        Ok(done) => {
-            *words = done.session.into();
-            Called {
-                number: 0,
-                standing: done.standing.into(),
-                taken: done.taken,
-                sent: done.sent,
-            }
-        }
-        Err(number) => Called {
-            number,
-            standing: 0,
-            taken: 0,
-            sent: 0,
-        },
+    if report.number == 0 {
+        *words = report.session.into();
+    }
+    Called {
+        number: report.number,
+        standing: report.standing,
+        taken: report.taken,
+        sent: report.sent,
     }
 }

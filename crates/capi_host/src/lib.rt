@@ -11,7 +11,7 @@ ghost use Rattle.called.specs.Called.{handed, handed_of};
 
 use called::{Called, hand_back};
 use host_flow::kind::Host;
-use machine::Record;
+use machine::{Record, Report};
 
 // A fresh record of a host.
 #[unsafe(no_mangle)]
@@ -35,5 +35,6 @@ pub extern "C" fn und_host_call(
 {
     let session = Record::from(*words);
     let outcome = host::session::call(session, opcode, payload, input, output, answer);
-    hand_back(outcome.map_err(u32::from), words)
+    let report = Report::of(session, outcome.map_err(u32::from));
+    hand_back(report, words)
 }

@@ -9,7 +9,7 @@ ghost use Rattle.rom.specs.Session.{rom};
 ghost use Rattle.called.specs.Called.{handed, handed_of};
 
 use called::{Called, hand_back};
-use machine::Record;
+use machine::{Record, Report};
 use rom_flow::kind::Receiver;
 
 // A fresh record of a receiver: kind 0 is P, 1 is E; `und_rom_call` refuses any other.
@@ -32,5 +32,6 @@ pub extern "C" fn und_rom_call(
 {
     let session = Record::from(*words);
     let outcome = rom::session::call(session, input, reply, ram);
-    hand_back(outcome.map_err(u32::from), words)
+    let report = Report::of(session, outcome.map_err(u32::from));
+    hand_back(report, words)
 }

@@ -10,7 +10,7 @@ ghost use Rattle.uartboot.specs.Session.{uartboot};
 ghost use Rattle.called.specs.Called.{handed, handed_of};
 
 use called::{Called, hand_back};
-use machine::Record;
+use machine::{Record, Report};
 use uartboot_flow::kind::Uartboot;
 
 // A fresh record of a uartboot session.
@@ -35,5 +35,6 @@ pub extern "C" fn und_uartboot_call(
 {
     let session = Record::from(*words);
     let outcome = uartboot::session::call(session, input, reply, ram, flash, work);
-    hand_back(outcome.map_err(u32::from), words)
+    let report = Report::of(session, outcome.map_err(u32::from));
+    hand_back(report, words)
 }

@@ -1,3 +1,4 @@
+pub mod DataEnds
 pub mod Checks
 pub mod Ready
 pub mod Executions

@@ -8,6 +8,7 @@ pub mod Loops
 pub mod Lines
 pub mod Refusals
 pub mod Results
+pub mod Records
 pub mod Shapes
 pub mod Doing
 pub mod Repeats

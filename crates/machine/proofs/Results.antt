@@ -7,7 +7,7 @@ use borrow.Author.Tests.{ne_eqb}
 use Rattle.machine.specs.Loop.{Acted}
 use Rattle.machine.specs.Session.{Session, GivenBack, sound, unsound, bad_record, refused_report, accepted, result_of}
 use Rattle.machine.specs.declared.Record.{Record}
-use Rattle.machine.specs.Session.{Report}
+use Rattle.machine.specs.declared.Report.{Report}
 
 module _ {A M S : Type 0} (σ : Session A M S) (session : Record) (mem : M) (input : List A) (reply : List ℕ) (r : Report) where
   pub refused-length : (number : ℕ) → number ≡ σ.refusal mem → (number ≡ 0 → ⊥) → r ≡ refused_report number session →

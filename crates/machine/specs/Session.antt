@@ -6,6 +6,7 @@ use Rattle.memory.specs.Store.{laid}
 use Rattle.machine.specs.Machine.{Machine}
 use Rattle.machine.specs.Call.{standing, call}
 use Rattle.machine.specs.declared.Record.{Record}
+use Rattle.machine.specs.declared.Report.{Report}
 
 -- the record of a session at its flow's first step, with the number of its kind and no reason yet
 abbrev pub start_record : (kind : ℕ) → Record
@@ -25,14 +26,6 @@ pub record Session (A M S : Type 0) : Type 0 where
   pub read : Record → M → Read S
   pub write : S → Record
   pub memories : S → M
-
--- what a call says: the number 0 and what it did, or a refusal's number, zeros and the record as it was given
-pub record Report : Type 0 where
-  pub number : ℕ
-  pub standing : ℕ
-  pub taken : ℕ
-  pub sent : ℕ
-  pub session : Record
 
 -- what a call gives back, with the lent slices after it
 pub record GivenBack (M : Type 0) : Type 0 where

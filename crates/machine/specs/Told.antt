@@ -2,9 +2,10 @@
 -- Assumes nothing.
 use Rattle.std.specs.Prelude.{ℕ, Result, Ok, Err}
 use Rattle.wire.specs.Length.{bad_work, bad_ram, bad_flash}
-use Rattle.machine.specs.Session.{Report, bad_record, refused_report}
+use Rattle.machine.specs.Session.{bad_record, refused_report}
 use Rattle.machine.specs.Stop.{standing_number}
 use Rattle.machine.specs.declared.Record.{Record}
+use Rattle.machine.specs.declared.Report.{Report}
 use Rattle.machine.specs.declared.Accepted.{Accepted}
 use Rattle.machine.specs.declared.refusal.Refusal.{Refusal}
 use Rattle.machine.specs.declared.refusal.Refusal.TheVariants.{WorkLength, RamLength, FlashLength}

@@ -2,7 +2,8 @@
 #![tactic(auto)]
 
 ghost use Rattle.std.specs.Prelude.{◌≡◌};
-ghost use Rattle.machine.specs.Session.{start_record};
+ghost use Rattle.machine.specs.Session.{start_record, refused_report};
+ghost use Rattle.machine.specs.Told.{told};
 
 use crate::stop::Standing;
 
@@ -33,6 +34,48 @@ pub struct Accepted {
     pub taken: usize,
     pub sent: usize,
     pub session: Record,
+}
+
+// What a call says: the number 0 and what it did, or a refusal's number, zeros and the record as it was given. Its number and its standing
+// are numbers, since C takes them, and since `called` hands back every report, whatever its numbers are.
+#[derive(Clone, Copy)]
+pub struct Report {
+    pub number: u32,
+    pub standing: u32,
+    pub taken: usize,
+    pub sent: usize,
+    pub session: Record,
+}
+
+impl Report {
+    // The report of a call that was given a record, its refusal told by its number.
+    pub fn of(session: Record, outcome: Result<Accepted, u32>) -> Report
+        ensures { result ≡ told (λ number. number) session outcome }
+    {
+        match outcome {
+            Ok(done) => Report {
+                number: 0,
+                standing: done.standing.into(),
+                taken: done.taken,
+                sent: done.sent,
+                session: done.session,
+            },
+            Err(number) => refused(number, session),
+        }
+    }
+}
+
+// The report of a refused call.
+pub fn refused(number: u32, session: Record) -> Report
+    ensures { result ≡ refused_report number session }
+{
+    Report {
+        number,
+        standing: 0,
+        taken: 0,
+        sent: 0,
+        session,
+    }
 }
 
 // The record of a session at its flow's first step, by the number of its kind.
