@@ -10,7 +10,7 @@ use lib.Dec.{eqb}
 use lib.ListN.{length, take}
 use Rattle.memory.specs.Compare.{is_front}
 
-pub starts-front : (bytes part : List ℕ) → pointwise eqb bytes (take (length bytes) part) ≡ is_front bytes part
-starts-front [] part = refl
-starts-front (byte ∷ bytes) [] = refl
-starts-front (byte ∷ bytes) (there ∷ part) = grind (arith, nat_tests, starts-front bytes part)
+pub starts_front : (bytes part : List ℕ) → pointwise eqb bytes (take (length bytes) part) ≡ is_front bytes part
+starts_front [] part = refl
+starts_front (byte ∷ bytes) [] = refl
+starts_front (byte ∷ bytes) (there ∷ part) = grind (arith, nat_tests, starts_front bytes part)

@@ -1,7 +1,7 @@
 -- Laws of stores: a loop that goes through a part, a part that was changed and put back, and bytes laid after others.
 -- Assumes nothing.
 use Prim.Native.Nat.{ℕ, suc, ◌+◌, ◌-◌, ◌<◌, ◌≤◌}
-use mathlib.Core.Path.{◌≡◌, sym, ◌∙◌}
+use mathlib.Core.Path.{◌≡◌, refl, sym, ◌∙◌}
 use mathlib.Core.List.{List, [], ◌∷◌, ◌++◌, append_assoc, append-nil}
 use native.Mathlib.Nat.{zero-add}
 use native.Mathlib.Numerals.{add-one}
@@ -24,6 +24,11 @@ module _ (change : List ℕ → List ℕ → List ℕ) (bytes part whole : List 
 
   pub stored-all : ((olds : List ℕ) → change [] olds ≡ olds) → length bytes ≤ i → part ≡ whole
   stored-all none past = sym (take-append-drop i part) ∙ (rw (drop_of_length-le bytes past, none _) at so_far)
+
+-- a byte laid after those before it
+pub lays : (bytes part whole : List ℕ) (i : ℕ) → changed_from i (laid (drop i bytes)) part ≡ whole → i < length bytes → i < length part
+    → changed_from (i + 1) (laid (drop (i + 1) bytes)) (set part i (get_or bytes i 0)) ≡ whole
+lays bytes part whole i so_far more room = stored_more laid bytes part whole i so_far (λ old new. new) (λ _ _ _ _. refl) more room
 
 -- a part that lies in a memory
 pub part_length : (place count : ℕ) (memory : List ℕ) → place + count ≤ length memory → length (part_of place count memory) ≡ count
