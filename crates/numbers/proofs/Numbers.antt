@@ -7,10 +7,10 @@ use mathlib.Core.Path.{◌≡◌, refl, sym, ap, ◌∙◌}
 use mathlib.Core.List.{List, [], ◌∷◌, append_assoc}
 use native.Mathlib.Nat.{pow-suc, div-one, div-add-mod, div-div-eq-div-mul, div-lt_iff_lt-mul}
 use native.Mathlib.Omega.{arith}
-use lib.ListN.{length, take, replicate}
-use lib.Seq.{drop-drop}
+use lib.ListN.{length, take, drop, replicate, length-drop}
+use lib.Seq.{length-take-le, drop-drop}
 use borrow.Rule.Slice.PartMut.{put_mid}
-use Rattle.numbers.specs.Number.{number_of, low_byte, bytes_of}
+use Rattle.numbers.specs.Number.{number_of, number_at, low_byte, bytes_of}
 
 -- the bytes of a number make it again, at every width that it has room in
 pub bytes-number : (width n : ℕ) → n < 256 ^ width → number_of (bytes_of width n) ≡ n
@@ -31,6 +31,16 @@ word-number (a ∷ b ∷ c ∷ d ∷ e ∷ more) h = absurd (omega arith)
 pub number-in : (bytes : List ℕ) (width : ℕ) → width ≤ 4 → length bytes ≡ width → from_le_bytes w32 (put_mid 0 width (replicate 4 0) bytes) ≡ number_of bytes
 number-in bytes width h e = rw (← e) (word-number bytes (omega arith))
 
+-- the bytes from a place on, read so
+pub number_there : (bytes word : List ℕ) (place width : ℕ) → width ≤ 4 → place + width ≤ length bytes → word ≡ take (place + width - place) (drop place bytes)
+    → from_le_bytes w32 (put_mid 0 width (replicate 4 0) word) ≡ number_at width bytes place
+unfolding number_at
+number_there bytes word place width h there e =
+    let many : place + width - place ≡ width = omega arith in
+    let fits : length (take width (drop place bytes)) ≡ width = length-take-le width (drop place bytes) (rw length-drop (omega (arith, there))) in
+    let same : word ≡ take width (drop place bytes) = rw many at e in
+    number-in word width h (rw same fits) ∙ ap number_of same
+
 -- the lowest bytes of a number, from byte i on
 byte-low : (i n : ℕ) → byte_at i n ≡ low_byte (n / 256 ^ i)
 byte-low zero n = ap low_byte (sym (div-one n))
@@ -48,9 +58,9 @@ length-bytes zero n = refl
 length-bytes (suc width) n = ap suc (length-bytes width (n / 256))
 
 -- these bytes put in the place of others
-pub put-bytes : (out : List ℕ) (place width number : ℕ) (bytes : List ℕ) → width ≤ 4 → place + width ≤ length out → bytes ≡ take width (to_le_bytes w32 number)
+pub put_bytes : (out : List ℕ) (place width number : ℕ) (bytes : List ℕ) → width ≤ 4 → place + width ≤ length out → bytes ≡ take width (to_le_bytes w32 number)
     → put_mid place (place + width - place) out bytes ≡ sets out place (bytes_of width number)
-put-bytes out place width number bytes h room e =
+put_bytes out place width number bytes h room e =
     let low : take width (to_le_bytes w32 number) ≡ bytes_of width number = rw div-one at (low-bytes 0 4 width number h) in
     let many : place + width - place ≡ width = omega arith in
     let length_is = length-bytes width number in

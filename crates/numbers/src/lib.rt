@@ -1,14 +1,29 @@
 // Little-endian numbers of up to 4 bytes, read, written and put together from two bytes.
 #![tactic(auto)]
 
-ghost use Rattle.std.specs.Prelude.{◌≡◌, ◌+◌, ◌≤◌, length};
-ghost use Rattle.numbers.specs.Number.{number_at, read_narrow, paired, low_byte, high_byte};
+ghost use Rattle.std.specs.Prelude.{◌≡◌, [], ◌∷◌, ◌+◌, ◌≤◌, length};
+ghost use Rattle.numbers.specs.Number.{number_of, number_at, read_narrow, paired, low_byte, high_byte};
 
 use wire::range::place_in;
 
 pub mod put;
 
+// The number that 2 bytes make, the first one lowest.
+pub fn number16(b0: u8, b1: u8) -> u16
+    ensures { result ≡ number_of (b0 ∷ b1 ∷ []) }
+{
+    u16::from_le_bytes([b0, b1])
+}
+
+// The number that 4 bytes make. Beside `number16`, since each result is as wide as its bytes.
+pub fn number32(b0: u8, b1: u8, b2: u8, b3: u8) -> u32
+    ensures { result ≡ number_of (b0 ∷ b1 ∷ b2 ∷ b3 ∷ []) }
+{
+    u32::from_le_bytes([b0, b1, b2, b3])
+}
+
 // The number in the WIDTH bytes from a place on, for a caller that knows them to be there.
+#[tactic(auto, using(crate::proofs::Numbers::number_there))]
 pub fn number_at<const WIDTH: usize>(bytes: &[u8], place: usize) -> u32
     requires narrow { WIDTH ≤ 4 }
     requires there { place + WIDTH ≤ length bytes.now }
