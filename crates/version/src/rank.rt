@@ -46,7 +46,8 @@ fn all_zero(bytes: &[u8]) -> bool
     bytes.iter().all(|&byte| byte == 0)
 }
 
-// The rank of a version field, if its text is well formed.
+// The rank of a version field, if its text is well formed. Inlined, since a rank handed on in an Option is copied once more.
+#[inline(always)]
 #[tactic(auto, using(crate::proofs::Ranking::rankings), unfolding(crate::specs::Text::well_formed))]
 pub fn numbers(field: &[u8]) -> Option<Rank>
     ensures { result ≡ numbers_of field.now }
